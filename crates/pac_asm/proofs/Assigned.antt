@@ -1,48 +1,37 @@
 -- The symbols of the first phase are the one right assignment.
-use Rattle.std.proofs.Common.{◌≡◌, ℕ, ℤ, pos, negsuc, ◌+◌, Bool, true, false, List, [], ◌∷◌, ◌++◌, Option, Some, None, Result}
-use Rattle.std.proofs.Common.{Ok, Err, ok_or}
-use Rattle.std.proofs.Common.{refl, ap, sym, ◌∙◌, subst, append_assoc, option_map, length, is_some, is_none, nat_le, nat_lt}
-use Rattle.std.proofs.Common.{if◌then◌else◌}
+use Rattle.std.proofs.lemmas.Grind.{common_steps}
+use Rattle.std.proofs.Common.{◌≡◌, ℕ, ℤ, pos, ◌+◌, Bool, true, false, List, [], ◌∷◌, ◌++◌, Option, Some, None, Result, Ok, Err, arith}
+use Rattle.std.proofs.Common.{rules, refl, ap, sym, ◌∙◌, subst, append_assoc, option_map, length, nat_lt, if◌then◌else◌}
 use Rattle.std.specs.Str.{bytes_eq}
-use Rattle.std.proofs.lemmas.Bool.{false≢true}
 use Rattle.std.proofs.lemmas.Option.{none-some, same_Some}
 use Rattle.std.proofs.lemmas.List.{append-nil}
-use Rattle.pac_asm.proofs.Sizes.{closed-ok}
 use Rattle.pac_lemmas.proofs.Options.{same-Ok, Err-is-no-Ok}
 use Rattle.pac_expr.specs.declared.expr.Sign.{Sign}
-use Rattle.pac_expr.specs.declared.expr.Sign.TheVariants as signs
 use Rattle.pac_expr.specs.declared.expr.Operator.{Operator}
-use Rattle.pac_expr.specs.declared.evaluation.ValueError.TheVariants as errors
 use Rattle.pac_expr.specs.Trees.{Tree, atom, group, signed, joined}
 use Rattle.pac_expr.specs.Trees as trees
 use Rattle.pac_expr.specs.Values.{ValueResult, sign_value, joined_value, tree_value}
 use Rattle.pac_asm_program.specs.Names.{Symbol, number_of_symbol}
-use Rattle.pac_asm_program.specs.Programs.{rom_size}
-use Rattle.pac_asm_line.specs.Statements.{Statement, nothing, origin, equate, bytes, words, space, condition, otherwise}
-use Rattle.pac_asm_line.specs.Statements.{end_condition}
+use Rattle.pac_asm_line.specs.Statements.{Statement, nothing, origin, equate, bytes, words, space, condition, otherwise, end_condition}
 use Rattle.pac_asm_line.specs.Statements.{operation, Form}
-use Rattle.pac_asm_line.specs.Contents.{OrFault, statement_size, content_of}
+use Rattle.pac_asm_line.specs.Contents.{OrFault, content_of}
 use Rattle.pac_asm.specs.declared.condition.IfState.{IfState}
 use Rattle.pac_asm.specs.declared.place.Span.{Span}
 use Rattle.pac_asm.specs.declared.place.LineLayout.{LineLayout}
 use Rattle.pac_asm.specs.declared.place.LineLayout.TheVariants.{Blank, Skipped, Placed}
 use Rattle.pac_asm.specs.declared.fault.AsmCode.{AsmCode}
-use Rattle.pac_asm.specs.declared.fault.AsmCode.TheVariants.{OutsideRom, Overlap, DefinedBefore}
+use Rattle.pac_asm.specs.declared.fault.AsmCode.TheVariants.{DefinedBefore}
 use Rattle.pac_asm.specs.declared.fault.AsmFault.{AsmFault}
 use Rattle.pac_asm.specs.Results.{◌>>=◌, result_of_line}
 use Rattle.pac_asm.specs.Conditions.{is_judged, most_open_ifs, after_else, after_end, after_skipped}
-use Rattle.pac_asm.specs.Counting.{OpenIf, counts, is_read, inside_if}
-use Rattle.pac_asm.specs.Unclosed.{conditional_of_line, is_never_closed}
-use Rattle.pac_asm.specs.Standings.{Standing, first_standing, value_above, within_rom, is_new, with_label, overlaps, room_for}
+use Rattle.pac_asm.specs.Counting.{OpenIf, counts}
+use Rattle.pac_asm.specs.Unclosed.{conditional_of_line}
+use Rattle.pac_asm.specs.Standings.{Standing, first_standing, value_above, within_rom, is_new, with_label, room_for}
 use Rattle.pac_asm.specs.Reading.{form_of_line}
-use Rattle.pac_asm.specs.Phase1.{after_item, after_statement, after_form, after_judged, after_passed, after_text}
-use Rattle.pac_asm.specs.Phase1.{after_line, phase1}
-use Rattle.pac_asm.specs.Assignments.{Spot, LineStep, label_symbols, optional_count, optional_value, with_open_ifs, is_nonzero, with_bytes}
-use Rattle.pac_asm.specs.Assignments.{step_by}
-use Rattle.pac_asm.specs.Assignments.{step_read, step_if}
+use Rattle.pac_asm.specs.Phase1.{after_item, after_statement, after_form, after_judged, after_passed, after_text, phase1}
+use Rattle.pac_asm.specs.Assignments.{Spot, LineStep, label_symbols, optional_count, with_open_ifs, with_bytes, step_by, step_read, step_if}
 use Rattle.pac_asm.specs.Assignments.{step_of, defined_after, defined_in, first_spot, SymbolsAreRight}
-use Rattle.pac_asm.specs.Entries.{count_of, entry_sized, entry_by, entry_read, entry_if, entry_of}
-use Rattle.pac_asm.specs.Entries as entering
+use Rattle.pac_asm.specs.Entries.{count_of, entry_by, entry_if, entry_of}
 use Rattle.pac_asm.specs.Phase2.{line_of, code_of_fault}
 use Rattle.std.specs.Result.{result_map_both}
 use Rattle.pac_asm_program.specs.declared.line.Line.{Line}
@@ -52,8 +41,6 @@ use Rattle.pac_asm.proofs.FirstWords.{is_if, word-of-if}
 use Rattle.pac_asm.proofs.OpenIfs.{opens, AreNested, AreOpen, none-nested, read-same, counts-if, counts-none, open-else}
 use Rattle.pac_asm.proofs.OpenIfs.{open-end, open-skipped, open-if}
 
--- ---- answers
-
 -- ---- names
 
 -- an assignment gives each of these names its number
@@ -62,8 +49,7 @@ Extends symbols names = (some : List ℕ) (z : ℤ) → number_of_symbol symbols
 
 found-by : (b : Bool) (z : ℤ) (first more : Option ℤ) (v : ℤ) → (first ≡ Some v → more ≡ Some v)
     → (if b then Some z else first) ≡ Some v → (if b then Some z else more) ≡ Some v
-found-by true z first more v h e = e
-found-by false z first more v h e = h e
+found-by b z first more v h e = search rules
 
 -- what stands in the first of two lists stands in both
 pub found-first : (xs ys : List Symbol) → (some : List ℕ) (v : ℤ) → number_of_symbol xs some ≡ Some v →
@@ -74,37 +60,23 @@ found-first (x ∷ xs) ys some v e =
 
 -- ---- values
 
-defined-ok : (o : Option ℤ) (z : ℤ) → ok_or o errors.Undefined ≡ Ok z → o ≡ Some z
-defined-ok None z e = absurd (Err-is-no-Ok _ z e)
-defined-ok (Some y) z e = ap Some (same-Ok y z e)
-
 record Valued (answer : ValueResult) : Type 0 where
   number : ℤ
   is : answer ≡ Ok number
 
 sign-ok : (sign : Sign) (answer : ValueResult) (z : ℤ) → sign_value sign answer ≡ Ok z → Valued answer
-sign-ok signs.Plus answer z e = record { number = z; is = e }
-sign-ok signs.Minus (Ok y) z e = record { number = y; is = refl }
-sign-ok signs.Minus (Err fault) z e = absurd (Err-is-no-Ok fault z e)
+sign-ok sign answer z e = search rules
 
 left-ok : (operator : Operator) (left right : ValueResult) (z : ℤ) → joined_value operator left right ≡ Ok z → Valued left
-left-ok operator (Ok x) right z e = record { number = x; is = refl }
-left-ok operator (Err fault) (Ok y) z e = absurd (Err-is-no-Ok fault z e)
-left-ok operator (Err fault) (Err other) z e = absurd (Err-is-no-Ok _ z e)
+left-ok operator left right z e = search rules
 
 right-ok : (operator : Operator) (left right : ValueResult) (z : ℤ) → joined_value operator left right ≡ Ok z → Valued right
-right-ok operator left (Ok y) z e = record { number = y; is = refl }
-right-ok operator (Ok x) (Err fault) z e = absurd (Err-is-no-Ok fault z e)
-right-ok operator (Err other) (Err fault) z e = absurd (Err-is-no-Ok _ z e)
+right-ok operator left right z e = search rules
 
 -- a value needs no more names than it has
 value-extends : (symbols : List Symbol) (names : List ℕ → Option ℤ) → Extends symbols names → (at : ℕ) (tree : Tree) (z : ℤ)
     → tree_value (number_of_symbol symbols) at tree ≡ Ok z → tree_value names at tree ≡ Ok z
-value-extends symbols names extends at (atom (trees.number n)) z e = e
-value-extends symbols names extends at (atom (trees.character c)) z e = e
-value-extends symbols names extends at (atom (trees.name text)) z e =
-    ap (λ (o : Option ℤ). ok_or o errors.Undefined) (extends text z (defined-ok (number_of_symbol symbols text) z e))
-value-extends symbols names extends at (atom trees.here) z e = e
+value-extends symbols names extends at (atom (trees.name text)) z e = search rules
 value-extends symbols names extends at (group tree) z e = value-extends symbols names extends at tree z e
 value-extends symbols names extends at (signed sign tree) z e =
     let inner = sign-ok sign (tree_value (number_of_symbol symbols) at tree) z e in
@@ -116,6 +88,7 @@ value-extends symbols names extends at (joined operator left right) z e =
     ((value-extends symbols names extends at left l.number l.is ∙ sym l.is) i)
     ((value-extends symbols names extends at right r.number r.is ∙ sym r.is) i))
     ∙ e
+value-extends symbols names extends at tree z e = e
 
 -- ---- steps
 
@@ -152,21 +125,13 @@ placed_by names statement (Placed span) = line_or_fault span.at (content_of name
 abbrev pub Fills : (List ℕ → Option ℤ) → Spot → Statement → LineLayout → Type 0
 Fills names spot statement place = (here : Line) → placed_by names statement place ≡ Ok here → entry_by names spot statement ≡ Some here
 
-placed-is : (at : ℕ) (content : OrFault (Option Content)) (here : Line) → line_or_fault at content ≡ Ok here
-    → entering.entry_at at content ≡ Some here
-placed-is at (Ok None) here e = ap Some (same-Ok _ here e)
-placed-is at (Ok (Some content)) here e = ap Some (same-Ok _ here e)
-placed-is at (Err fault) here e = absurd (Err-is-no-Ok _ here e)
-
 fills-item : (names : List ℕ → Option ℤ) (spot : Spot) (statement : Statement) (size : ℕ)
     → count_of names spot.at statement ≡ Some size → Fills names spot statement (Placed (record { at = spot.at; size = size }))
-fills-item names spot statement size e here is =
-    ap (entry_sized names spot.at statement) e ∙ placed-is spot.at (content_of names spot.at size statement) here is
+fills-item names spot statement size e here is = search rules
 
 fills-blank : (names : List ℕ → Option ℤ) (spot : Spot) (statement : Statement) (size : ℕ) → count_of names spot.at statement ≡ Some size
     → content_of names spot.at size statement ≡ Ok None → Fills names spot statement Blank
-fills-blank names spot statement size e none here is =
-    ap (entry_sized names spot.at statement) e ∙ ap (entering.entry_at spot.at) none ∙ ap Some (same-Ok _ here is)
+fills-blank names spot statement size e none here is = search rules
 
 blank-nothing : (names : List ℕ → Option ℤ) (spot : Spot) → Fills names spot nothing Blank
 unfolding content_of
@@ -199,24 +164,15 @@ record Known (answer : ValueResult) (go : ℤ → Result Standing AsmCode) (next
 
 known-ok : (answer : ValueResult) (go : ℤ → Result Standing AsmCode) (next : Standing) → (value_above answer >>= go) ≡ Ok next
     → Known answer go next
-known-ok (Ok z) go next e = record { number = z; is = refl; goes = e }
-known-ok (Err errors.Undefined) go next e = absurd (Err-is-no-Ok _ next e)
-known-ok (Err errors.OutOfRange) go next e = absurd (Err-is-no-Ok _ next e)
-known-ok (Err errors.DivisionByZero) go next e = absurd (Err-is-no-Ok _ next e)
+known-ok answer go next e = search rules
 
 record Within (z : ℤ) (go : ℕ → Result Standing AsmCode) (next : Standing) : Type 0 where
   count : ℕ
   is : z ≡ pos count
   goes : go count ≡ Ok next
 
-within-by : (b : Bool) (n : ℕ) (go : ℕ → Result Standing AsmCode) (next : Standing)
-    → ((if b then Ok n else Err OutsideRom) >>= go) ≡ Ok next → go n ≡ Ok next
-within-by true n go next e = e
-within-by false n go next e = absurd (Err-is-no-Ok _ next e)
-
 within-ok : (z : ℤ) (go : ℕ → Result Standing AsmCode) (next : Standing) → (within_rom z >>= go) ≡ Ok next → Within z go next
-within-ok (pos n) go next e = record { count = n; is = refl; goes = within-by (nat_le n rom_size) n go next e }
-within-ok (negsuc n) go next e = absurd (Err-is-no-Ok _ next e)
+within-ok z go next e = search rules
 
 record Counted (answer : ValueResult) (go : ℕ → Result Standing AsmCode) (next : Standing) : Type 0 where
   count : ℕ
@@ -226,11 +182,7 @@ record Counted (answer : ValueResult) (go : ℕ → Result Standing AsmCode) (ne
 counted-ok : (answer : ValueResult) (go : ℕ → Result Standing AsmCode) (next : Standing) →
     ((value_above answer >>= within_rom) >>= go) ≡ Ok next
     → Counted answer go next
-counted-ok (Ok (pos n)) go next e = record { count = n; is = refl; goes = within-by (nat_le n rom_size) n go next e }
-counted-ok (Ok (negsuc n)) go next e = absurd (Err-is-no-Ok _ next e)
-counted-ok (Err errors.Undefined) go next e = absurd (Err-is-no-Ok _ next e)
-counted-ok (Err errors.OutOfRange) go next e = absurd (Err-is-no-Ok _ next e)
-counted-ok (Err errors.DivisionByZero) go next e = absurd (Err-is-no-Ok _ next e)
+counted-ok answer go next e = search rules
 
 record Gone {A B E : Type 0} (answer : Result A E) (go : A → Result B E) (next : B) : Type 0 where
   found : A
@@ -238,51 +190,24 @@ record Gone {A B E : Type 0} (answer : Result A E) (go : A → Result B E) (next
   goes : go found ≡ Ok next
 
 gone : {A B E : Type 0} (answer : Result A E) (go : A → Result B E) (next : B) → (answer >>= go) ≡ Ok next → Gone answer go next
-gone (Ok x) go next e = record { found = x; is = refl; goes = e }
-gone (Err fault) go next e = absurd (Err-is-no-Ok fault next e)
+gone answer go next e = search rules
 
 if-ok : {A E : Type 0} (b : Bool) (answer : Result A E) (fault : E) (next : A) → (if b then answer else Err fault) ≡ Ok next →
     answer ≡ Ok next
-if-ok true answer fault next e = e
-if-ok false answer fault next e = absurd (Err-is-no-Ok fault next e)
-
--- a new label goes last
-new-name : (symbols : List Symbol) (name : List ℕ) (number : ℤ) (o : Option ℤ) → is_none o ≡ true
-    → (if is_some o then symbols else symbols ++ (name, number) ∷ []) ≡ symbols ++ (name, number) ∷ []
-new-name symbols name number None e = refl
-new-name symbols name number (Some z) e = absurd (false≢true e)
+if-ok b answer fault next e = search rules
 
 new-label : (symbols : List Symbol) (label : Option (List ℕ)) (number : ℤ) → is_new symbols label ≡ true
     → with_label symbols label number ≡ symbols ++ label_symbols label number
-new-label symbols None number e = sym (append-nil symbols)
-new-label symbols (Some name) number e = new-name symbols name number (number_of_symbol symbols name) e
-
-room-by : (outside taken : Bool) (made span : Span) (one other : AsmCode)
-    → (if outside then Err one else (if taken then Err other else Ok made)) ≡ Ok span → made ≡ span
-room-by true taken made span one other e = absurd (Err-is-no-Ok _ span e)
-room-by false true made span one other e = absurd (Err-is-no-Ok _ span e)
-room-by false false made span one other e = same-Ok made span e
+new-label symbols label number e = search rules
 
 room-is : (above : Standing) (size : ℕ) (span : Span) → room_for above size ≡ Ok span → record { at = above.at; size = size } ≡ span
-room-is above size span e =
-    let made : Span = record { at = above.at; size = size } in
-    room-by (nat_lt rom_size (above.at + size)) (overlaps above.places made) made span OutsideRom Overlap e
+room-is above size span e = search rules
 
 -- an item of so many bytes
 agree-item : (above : Standing) → AreNested above.conditions → (label : Option (List ℕ)) (size : ℕ) (shows : LineLayout → Type 0)
     → shows (Placed (record { at = above.at; size = size })) → (next : Standing) → is_new above.symbols label ≡ true
     → after_item above label size ≡ Ok next → Agrees above (Some (with_bytes (spot_of above) label size)) shows next
-agree-item above nest label size shows here next is-new e =
-    let g = gone (room_for above size) _ next e in
-    agrees-at above _ shows _ next g.goes (record {
-      new = label_symbols label (pos above.at);
-      stepped = refl;
-      grown = new-label above.symbols label (pos above.at) is-new;
-      nested = nest;
-      place = Placed g.found;
-      added = refl;
-      fills = subst (λ (span : Span). shows (Placed span)) (room-is above size g.found g.is) here;
-    })
+agree-item above nest label size shows here next is-new e = grind (arith, agrees-at, gone, new-label, room-is)
 
 -- other open IFs
 agree-conditions : (above : Standing) (answer : Result (List IfState) AsmCode) (now : Option (List OpenIf)) (place : LineLayout)
@@ -293,15 +218,7 @@ agree-conditions : (above : Standing) (answer : Result (List IfState) AsmCode) (
 agree-conditions above answer now place shows here each next e =
     let g = gone answer _ next e in
     let o = each g.found g.is in
-    agrees-at above _ shows _ next g.goes (record {
-      new = [];
-      stepped = ap (with_open_ifs (spot_of above)) o.are;
-      grown = sym (append-nil above.symbols);
-      nested = o.nested;
-      place = place;
-      added = refl;
-      fills = here;
-    })
+    agrees-at above _ shows _ next g.goes (grind (arith, append-nil))
 
 agree-statement : (names : List ℕ → Option ℤ) (above : Standing) → Extends above.symbols names → AreNested above.conditions →
     (label : Option (List ℕ)) (statement : Statement) → (is_if statement ≡ true → counts (opens above.conditions) ≡ true)
@@ -335,8 +252,7 @@ agree-statement names above extends nest label (equate number) inside is-new nex
     let k = known-ok (tree_value (number_of_symbol above.symbols) above.at number) _ next e in
     agrees-at above _ _ _ next k.goes (record {
       new = label_symbols label k.number;
-      stepped = ap (λ answer. option_map (λ value. (label_symbols label value, spot_of above)) (optional_value answer))
-          (value-extends above.symbols names extends above.at number k.number k.is);
+      stepped = grind (arith, value-extends);
       grown = new-label above.symbols label k.number is-new;
       nested = nest;
       place = Blank;
@@ -349,9 +265,7 @@ agree-statement names above extends nest label (condition test) inside is-new ne
     let o = open-if k.number above.conditions nest (inside refl) in
     agrees-at above _ _ _ next k.goes (record {
       new = [];
-      stepped = ap (λ answer. with_open_ifs (spot_of above)
-          (option_map (λ value. inside_if (is_nonzero value) (opens above.conditions)) (optional_value answer)))
-          (value-extends above.symbols names extends above.at test k.number k.is) ∙ ap (with_open_ifs (spot_of above)) o.are;
+      stepped = grind (arith, opens, value-extends);
       grown = sym (append-nil above.symbols);
       nested = o.nested;
       place = Blank;
@@ -365,38 +279,17 @@ agree-statement names above extends nest label end_condition inside is-new next 
     agree-conditions above (after_end above.conditions) _ Blank _ (blank-end names (spot_of above))
     (λ conditions is. open-end above.conditions conditions nest is) next e
 agree-statement names above extends nest label (space size fill) inside is-new next e =
-    let k = counted-ok (tree_value (number_of_symbol above.symbols) above.at size) (after_item above label) next e in
-    let count : optional_count (tree_value names above.at size) ≡ Some k.count =
-    ap optional_count (value-extends above.symbols names extends above.at size (pos k.count) k.is) in
-    let item = agree-item above nest label k.count (Fills names (spot_of above) (space size fill))
-    (fills-item names (spot_of above) (space size fill) k.count count) next is-new k.goes in
-    record {
-      new = item.new;
-      stepped = ap (option_map (with_bytes (spot_of above) label)) count ∙ item.stepped;
-      grown = item.grown;
-      nested = item.nested;
-      place = item.place;
-      added = item.added;
-      fills = item.fills;
-    }
-agree-statement names above extends nest label (bytes parts) inside is-new next e =
-    agree-item above nest label (statement_size (bytes parts)) (Fills names (spot_of above) (bytes parts))
-    (fills-item names (spot_of above) (bytes parts) (statement_size (bytes parts)) refl) next is-new e
-agree-statement names above extends nest label (words numbers) inside is-new next e =
-    agree-item above nest label (statement_size (words numbers)) (Fills names (spot_of above) (words numbers))
-    (fills-item names (spot_of above) (words numbers) (statement_size (words numbers)) refl) next is-new e
-agree-statement names above extends nest label (operation written) inside is-new next e =
-    agree-item above nest label (statement_size (operation written)) (Fills names (spot_of above) (operation written))
-    (fills-item names (spot_of above) (operation written) (statement_size (operation written)) refl) next is-new e
+    grind (arith, agree-item, counted-ok, fills-item, value-extends)
+agree-statement names above extends nest label (bytes parts) inside is-new next e = grind (arith, agree-item, fills-item)
+agree-statement names above extends nest label (words numbers) inside is-new next e = grind (arith, agree-item, fills-item)
+agree-statement names above extends nest label (operation written) inside is-new next e = grind (arith, agree-item, fills-item)
 
 agree-new : (names : List ℕ → Option ℤ) (above : Standing) → Extends above.symbols names → AreNested above.conditions → (form : Form)
     (b : Bool)
     → (is_if form.statement ≡ true → counts (opens above.conditions) ≡ true) → is_new above.symbols form.label ≡ b → (next : Standing)
     → (if b then after_statement above form.label form.statement else Err DefinedBefore) ≡ Ok next
     → Agrees above (step_by names (spot_of above) form.label form.statement) (Fills names (spot_of above) form.statement) next
-agree-new names above extends nest form true inside is-new next e =
-    agree-statement names above extends nest form.label form.statement inside is-new next e
-agree-new names above extends nest form false inside is-new next e = absurd (Err-is-no-Ok _ next e)
+agree-new names above extends nest form b inside is-new next e = grind (arith, Err-is-no-Ok, agree-statement)
 
 -- what a line puts into a program at a place
 abbrev pub line_by : (List ℕ → Option ℤ) → List ℕ → LineLayout → Result Line AsmCode
@@ -409,10 +302,7 @@ FillsLine names spot line b place = (here : Line) → line_by names line place �
 
 line-reads : (names : List ℕ → Option ℤ) (line : List ℕ) (form : Form) → form_of_line line ≡ Ok form → (place : LineLayout)
     → line_by names line place ≡ placed_by names form.statement place
-line-reads names line form e Blank = refl
-line-reads names line form e Skipped = refl
-line-reads names line form e (Placed span) =
-    ap (λ (answer : Result Form AsmCode). answer >>= λ form. line_or_fault span.at (content_of names span.at span.size form.statement)) e
+line-reads names line form e place = search rules
 
 agree-read : (names : List ℕ → Option ℤ) (above : Standing) → Extends above.symbols names → AreNested above.conditions → (line : List ℕ)
     → is_judged above.conditions (conditional_of_line line) ≡ true → (answer : Result Form AsmCode) → form_of_line line ≡ answer →
@@ -421,20 +311,8 @@ agree-read : (names : List ℕ → Option ℤ) (above : Standing) → Extends ab
     → Agrees above (step_read names (spot_of above) answer) (FillsLine names (spot_of above) line true) next
 agree-read names above extends nest line judged (Ok form) is next e =
     let inside : is_if form.statement ≡ true → counts (opens above.conditions) ≡ true =
-    λ h. counts-if (opens above.conditions)
-    (ap (is_read (opens above.conditions)) (sym (word-of-if line form is h))
-    ∙ sym (read-same above.conditions (conditional_of_line line) nest) ∙ judged) in
-    let a = agree-new names above extends nest form (is_new above.symbols form.label) inside refl next e in
-    record {
-      new = a.new;
-      stepped = a.stepped;
-      grown = a.grown;
-      nested = a.nested;
-      place = a.place;
-      added = a.added;
-      fills = λ here shown.
-          ap (entry_read names (spot_of above)) is ∙ a.fills here (sym (line-reads names line form is a.place) ∙ shown);
-    }
+    grind (arith, counts-if, opens, read-same, word-of-if) in
+    let a = agree-new names above extends nest form (is_new above.symbols form.label) inside refl next e in grind (arith, line-reads)
 agree-read names above extends nest line judged (Err code) is next e = absurd (Err-is-no-Ok code next e)
 
 agree-if : (names : List ℕ → Option ℤ) (above : Standing) → Extends above.symbols names → AreNested above.conditions → (line : List ℕ)
@@ -457,23 +335,13 @@ unfolding after_text step_of entry_of
 agree-text names above extends nest line next e =
     let judged = is_judged above.conditions (conditional_of_line line) in
     let same = read-same above.conditions (conditional_of_line line) nest in
-    let a = agree-if names above extends nest line judged refl next e in
-    record {
-      new = a.new;
-      stepped = ap (step_if names (spot_of above) line) (sym same) ∙ a.stepped;
-      grown = a.grown;
-      nested = a.nested;
-      place = a.place;
-      added = a.added;
-      fills = λ here shown. ap (entry_if names (spot_of above) line) (sym same) ∙ a.fills here shown;
-    }
+    let a = agree-if names above extends nest line judged refl next e in search rules
 
 -- ---- lines
 
 in-line-ok : (number : ℕ) (answer : Result Standing AsmCode) (go : Standing → Result Standing AsmFault) (end : Standing)
     → (result_of_line number answer >>= go) ≡ Ok end → (next : Standing) × (answer ≡ Ok next) × (go next ≡ Ok end)
-in-line-ok number (Ok next) go end e = (next, refl, e)
-in-line-ok number (Err code) go end e = absurd (Err-is-no-Ok _ end e)
+in-line-ok number answer go end e = search rules
 
 pub record First (number : ℕ) (above : Standing) (line : List ℕ) (below : List (List ℕ)) (end : Standing) : Type 0 where
   pub next : Standing
@@ -483,13 +351,7 @@ pub record First (number : ℕ) (above : Standing) (line : List ℕ) (below : Li
 pub first-line : (number : ℕ) (above : Standing) (line : List ℕ) (below : List (List ℕ)) (end : Standing)
     → phase1 number above (line ∷ below) ≡ Ok end → First number above line below end
 unfolding phase1
-first-line number above line below end e =
-    let h = in-line-ok number (after_line above line below) _ end e in
-    record {
-      next = h.0;
-      after = closed-ok (is_never_closed (conditional_of_line line) below) (after_text above line) h.0 h.1;
-      others = h.2;
-    }
+first-line number above line below end e = search rules
 
 pub no-line : (number : ℕ) (above end : Standing) → phase1 number above [] ≡ Ok end → above ≡ end
 unfolding phase1
@@ -504,8 +366,7 @@ pub grows : (number : ℕ) (above : Standing) → AreNested above.conditions →
 grows number above nest [] end e =
     record {
       more = [];
-      is = ap (λ (standing : Standing). standing.symbols) (sym (no-line number above end e)) ∙
-          sym (append-nil above.symbols);
+      is = cc (no-line number above end e, append-nil above.symbols);
     }
 grows number above nest (line ∷ below) end e =
     let f = first-line number above line below end e in
@@ -526,30 +387,19 @@ record Defined (names : List ℕ → Option ℤ) (above : Standing) (lines : Lis
 defines : (names : List ℕ → Option ℤ) (number : ℕ) (above : Standing) → AreNested above.conditions → (lines : List (List ℕ))
     (end : Standing) → phase1 number above lines ≡ Ok end → Extends end.symbols names → Defined names above lines end
 unfolding defined_in
-defines names number above nest [] end e extends = record {
-  more = [];
-  defined = refl;
-  is = ap (λ (standing : Standing). standing.symbols) (sym (no-line number above end e)) ∙ sym (append-nil above.symbols);
-}
+defines names number above nest [] end e extends = grind (arith, append-nil, no-line)
 defines names number above nest (line ∷ below) end e extends =
     let f = first-line number above line below end e in
     let g = grows number above nest (line ∷ below) end e in
     let here = extends-less above.symbols g.more names (subst (λ symbols. Extends symbols names) g.is extends) in
     let a = agree-text names above here nest line f.next f.after in
-    let d = defines names (number + 1) f.next a.nested below end f.others extends in
-    record {
-      more = a.new ++ d.more;
-      defined = ap (λ step. defined_after step (λ next. defined_in names next below)) a.stepped
-          ∙ ap (option_map (λ more. a.new ++ more)) d.defined;
-      is = d.is ∙ ap (λ xs. xs ++ d.more) a.grown ∙ append_assoc above.symbols a.new d.more;
-    }
+    let d = defines names (number + 1) f.next a.nested below end f.others extends in grind (arith, common_steps)
 
 -- ---- and no other assignment is
 
 pub mapped : (new rest : List Symbol) (o : Option (List Symbol)) → option_map (λ more. new ++ more) o ≡ Some rest
     → (more : List Symbol) × (o ≡ Some more) × (new ++ more ≡ rest)
-mapped new rest None e = absurd (none-some rest e)
-mapped new rest (Some more) e = (more, refl, same_Some (new ++ more) rest e)
+mapped new rest o e = search rules
 
 agree-all : (names : List ℕ → Option ℤ) (number : ℕ) (above : Standing) → AreNested above.conditions → (lines : List (List ℕ))
     (end : Standing) (rest : List Symbol)
@@ -557,12 +407,7 @@ agree-all : (names : List ℕ → Option ℤ) (number : ℕ) (above : Standing) 
     → ((some : List ℕ) → names some ≡ number_of_symbol (above.symbols ++ rest) some)
     → (some : List ℕ) → names some ≡ number_of_symbol end.symbols some
 unfolding defined_in
-agree-all names number above nest [] end rest e d assigned some =
-    let none : [] ≡ rest = same_Some [] rest d in
-    let same : above.symbols ++ rest ≡ end.symbols =
-    ap (λ xs. above.symbols ++ xs) (sym none) ∙ append-nil above.symbols
-    ∙ ap (λ (standing : Standing). standing.symbols) (no-line number above end e) in
-    assigned some ∙ ap (λ symbols. number_of_symbol symbols some) same
+agree-all names number above nest [] end rest e d assigned some = grind (arith, append-nil, no-line, same_Some)
 agree-all names number above nest (line ∷ below) end rest e d assigned some =
     let f = first-line number above line below end e in
     let here : Extends above.symbols names = λ n z h. assigned n ∙ found-first above.symbols rest n z h in
@@ -582,11 +427,6 @@ pub symbols-are-right : SymbolsAreRight
 symbols-are-right lines after e =
     let d = defines (number_of_symbol after.symbols) 1 first_standing none-nested lines after e (λ some z h. h) in
     record {
-      right = record {
-        definitions = d.more;
-        defined = ap (λ spot. defined_in (number_of_symbol after.symbols) spot lines) start-spot ∙ d.defined;
-        assigned = λ some. ap (λ symbols. number_of_symbol symbols some) d.is;
-      };
-      only = λ names right some. agree-all names 1 first_standing none-nested lines after right.definitions e
-          (ap (λ spot. defined_in names spot lines) (sym start-spot) ∙ right.defined) right.assigned some;
+      right = grind (arith, start-spot);
+      only = grind (arith, agree-all, none-nested, start-spot);
     }

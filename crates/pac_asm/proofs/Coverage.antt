@@ -1,8 +1,8 @@
 -- The cells that lines take.
-use Rattle.std.proofs.Common.{◌≡◌, ℕ, ◌+◌, ◌<◌, ◌≤◌, Bool, true, false, List, [], ◌∷◌, ◌++◌, ◌||◌, length, get_or, take}
+use Rattle.std.proofs.Common.{◌≡◌, ℕ, ◌+◌, ◌<◌, ◌≤◌, Bool, true, false, List, [], ◌∷◌, ◌++◌, ◌||◌, length, get_or, take, rules}
 use Rattle.std.proofs.Common.{drop, ap, sym, ◌∙◌, subst, ◌⊎◌, inl, inr, ⊎_elim, arith, replicate, append_assoc, append-nil}
-use Rattle.std.specs.List.{range_with_len, list_any}
-use Rattle.std.proofs.lemmas.Bool.{or_right, le-leb, lt-ltb, lt-leb, le-ltb, and_from, and_left, and_right}
+use Rattle.std.specs.List.{list_any}
+use Rattle.std.proofs.lemmas.Bool.{or_right, le-leb, lt-ltb, and_from}
 use Rattle.std.proofs.Math.Bool.{or-false}
 use Rattle.std.proofs.lemmas.List.{length-replicate, get_or-replicate}
 use Rattle.std.proofs.lemmas.List.Folds.{list_any-append}
@@ -30,22 +30,18 @@ length-cells n places = length-map-range_with_len (is_taken places) 0 n
 pub part_taken : (places : List LineLayout) (span : Span) (n : ℕ) → span.at + span.size ≤ n
     → list_any (λ taken. taken) (take span.size (drop span.at (cells_below n places))) ≡ overlaps places span
 unfolding cells_below
-part_taken places span n inside =
-    ap (list_any (λ taken. taken)) (part-map-range (is_taken places) span.at span.size n inside)
-    ∙ list_any-map (λ taken. taken) (is_taken places) (range_with_len span.at span.size)
+part_taken places span n inside = grind (arith, list_any-map, part-map-range)
 
 -- one line more
 more : (places : List LineLayout) (place : LineLayout) (cell : ℕ) → is_taken (places ++ place ∷ []) cell ≡
     (is_taken places cell || place_covers cell place)
-more places place cell =
-    list_any-append (place_covers cell) places (place ∷ []) ∙ ap (λ b. is_taken places cell || b) (or-false (place_covers cell place))
+more places place cell = grind (arith, list_any-append, or-false)
 
 covered : (span : Span) (k : ℕ) → k < span.size → span_covers span (span.at + k) ≡ true
 covered span k h = and_from _ _ (le-leb span.at (span.at + k) (omega arith)) (lt-ltb (span.at + k) (span.at + span.size) (omega arith))
 
 uncovered : (span : Span) (k : ℕ) → (k < span.at) ⊎ (span.at + span.size ≤ k) → span_covers span k ≡ false
-uncovered span k (inl h) = and_left _ _ (lt-leb span.at k h)
-uncovered span k (inr h) = and_right _ _ (le-ltb k (span.at + span.size) h)
+uncovered span k apart = search rules
 
 -- with the cells of a span taken
 pub with_span : (places : List LineLayout) (span : Span) (n : ℕ) (old : List Bool) → old ≡ cells_below n places → span.at + span.size ≤ n

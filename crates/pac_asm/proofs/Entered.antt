@@ -1,11 +1,11 @@
 -- The second phase gives each line the entry that it has under the symbols.
-use Rattle.std.proofs.Common.{◌≡◌, ℕ, ◌+◌, List, [], ◌∷◌, ◌++◌, Some, Result, Ok, Err, option_map}
-use Rattle.std.proofs.Common.{refl, ap, sym, ◌∙◌, subst, append_assoc, append-nil}
+use Rattle.std.proofs.lemmas.Grind.{common_steps}
+use Rattle.std.proofs.Common.{◌≡◌, ℕ, ◌+◌, List, [], ◌∷◌, ◌++◌, Some, Result, Ok, option_map}
+use Rattle.std.proofs.Common.{refl, ap, sym, ◌∙◌, subst, append_assoc, append-nil, arith, rules}
 use Rattle.pac_lemmas.proofs.Options.{same-Ok}
 use Rattle.pac_asm_program.specs.Names.{Symbol, number_of_symbol}
 use Rattle.pac_asm_program.specs.declared.line.Line.{Line}
 use Rattle.pac_asm.specs.declared.place.LineLayout.{LineLayout}
-use Rattle.pac_asm.specs.declared.place.LineLayout.TheVariants.{Blank, Skipped, Placed}
 use Rattle.pac_asm.specs.declared.fault.AsmCode.{AsmCode}
 use Rattle.pac_asm.specs.declared.fault.AsmFault.{AsmFault}
 use Rattle.pac_asm.specs.Results.{◌>>=◌, result_of_line}
@@ -19,14 +19,11 @@ use Rattle.pac_asm.proofs.Assigned.{Extends, spot_of, start-spot, line_by, agree
 
 line-is : (symbols : List Symbol) (line : List ℕ) (place : LineLayout) →
     line_at_place symbols line place ≡ line_by (number_of_symbol symbols) line place
-line-is symbols line Blank = refl
-line-is symbols line Skipped = refl
-line-is symbols line (Placed span) = refl
+line-is symbols line place = search rules
 
 in-line-ok : (number : ℕ) (answer : Result Line AsmCode) (go : Line → Result (List Line) AsmFault) (out : List Line)
     → (result_of_line number answer >>= go) ≡ Ok out → (here : Line) × (answer ≡ Ok here) × (go here ≡ Ok out)
-in-line-ok number (Ok here) go out e = (here, refl, e)
-in-line-ok number (Err code) go out e = absurd cc
+in-line-ok number answer go out e = search rules
 
 -- the entries of some lines, which the second phase puts behind those of the lines above
 record Entered (symbols : List Symbol) (above : Standing) (lines : List (List ℕ)) (end : Standing) : Type 0 where
@@ -52,8 +49,7 @@ entered symbols number above nest (line ∷ below) end e extends =
     let rest = entered symbols (number + 1) f.next a.nested below end f.others extends in
     record {
       places = a.place ∷ rest.places;
-      are = rest.are ∙ ap (λ (places : List LineLayout). places ++ rest.places) a.added
-          ∙ append_assoc above.places (a.place ∷ []) rest.places;
+      are = grind (arith, common_steps);
       filled = λ n before out e.
           let first = in-line-ok n (line_at_place symbols line a.place) _ out e in
           let r = rest.filled (n + 1) (before ++ first.0 ∷ []) out first.2 in

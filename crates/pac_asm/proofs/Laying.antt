@@ -1,11 +1,9 @@
 -- The first phase line by line.
-use Rattle.std.proofs.Common.{◌≡◌, ℕ, ◌+◌, Bool, true, false, List, [], ◌∷◌, Option, Some, None, Result, Ok, Err, option_map, length}
+use Rattle.std.proofs.Common.{◌≡◌, ℕ, ◌+◌, Bool, false, List, [], ◌∷◌, Option, Some, Result, Ok, Err, option_map, length, rules}
 use Rattle.std.proofs.Common.{refl, ap, sym, ◌∙◌, arith, cond}
 use Rattle.std.specs.Str.Lines.{lines}
-use Rattle.std.proofs.lemmas.Bool.{eq-eqb, ne_eqb}
 use Rattle.pac_asm.specs.declared.fault.AsmFault.{AsmFault}
 use Rattle.pac_asm.specs.declared.fault.AsmError.{AsmError}
-use Rattle.pac_asm.specs.declared.fault.AsmError.TheVariants as errors
 use Rattle.pac_asm.specs.Errors.{AssemblyFails}
 use Rattle.pac_asm.specs.Results.{◌>>=◌, result_of_line}
 use Rattle.pac_asm.specs.Pairing.{is_found_line}
@@ -13,7 +11,7 @@ use Rattle.pac_asm.specs.Unclosed.{conditional_of_line, is_never_closed}
 use Rattle.pac_asm.specs.UnclosedProofs.{first_unclosed}
 use Rattle.pac_asm.specs.Standings.{Standing, first_standing}
 use Rattle.pac_asm.specs.Phase1.{after_text, after_line, unless_left_open, phase1}
-use Rattle.pac_asm.proofs.Pairs.{shifted, shifted-more, shifted-none}
+use Rattle.pac_asm.proofs.Pairs.{shifted, shifted-none}
 
 -- what is known after some lines: the line after them stands below so many
 pub record Laid (source rest : List ℕ) (unclosed : Option ℕ) (above : ℕ) (standing : Standing) : Type 0 where
@@ -29,19 +27,15 @@ begins source unclosed e =
 -- ---- whether the next line is an IF that is never closed
 
 past : (above : ℕ) (x : Option ℕ) → is_found_line (shifted (above + 1) x) above ≡ false
-past above None = refl
-past above (Some n) = ne_eqb (above + 1 + n) above (λ e. omega arith)
+past above x = search rules
 
 here : (above : ℕ) (is_open : Bool) (below : List (List ℕ))
     → is_found_line (shifted above (cond is_open (Some 0) (option_map (λ n. n + 1) (first_unclosed below)))) above ≡ is_open
-here above true below = eq-eqb (above + 0) above (omega arith)
-here above false below =
-    ap (λ (x : Option ℕ). is_found_line x above) (shifted-more above (first_unclosed below)) ∙ past above (first_unclosed below)
+here above is_open below = search rules
 
 next : (above : ℕ) (is_open : Bool) (below : List (List ℕ)) → is_open ≡ false
     → shifted above (cond is_open (Some 0) (option_map (λ n. n + 1) (first_unclosed below))) ≡ shifted (above + 1) (first_unclosed below)
-next above true below e = absurd (cc)
-next above false below e = shifted-more above (first_unclosed below)
+next above is_open below e = search rules
 
 -- ---- one line more
 
@@ -76,16 +70,11 @@ module _ (source rest line below : List ℕ) (unclosed : Option ℕ) (above : �
 
     pub onward : (new : Standing) → result_of_line (above + 1) (unless_left_open is_open (after_text old line)) ≡ Ok new → is_open ≡ false
         → Laid source below unclosed (above + 1) new
-    onward new e shut = record {
-      same = sym (taken (above + 1) old new line (lines below) (sym line_is ∙ e)) ∙ same_here;
-      counted = omega (arith, was.counted, ap length parts);
-      pairs = pairs_here ∙ next above never (lines below) (sym open_is ∙ shut);
-    }
+    onward new e shut = grind (arith, line_is, next, pairs_here, same_here, taken)
 
     pub ends : (error : AsmError) → AssemblyFails error (result_of_line (above + 1) (unless_left_open is_open (after_text old line)))
         → AssemblyFails error (phase1 1 first_standing (lines source))
-    ends errors.Memory h = tt
-    ends (errors.Fault fault) h = sym same_here ∙ refused (above + 1) old line (lines below) fault (sym line_is ∙ h)
+    ends error h = grind (arith, line_is, refused, same_here)
 
 pub finished : (source rest : List ℕ) (unclosed : Option ℕ) (above : ℕ) (standing : Standing) → rest ≡ []
     → Laid source rest unclosed above standing → phase1 1 first_standing (lines source) ≡ Ok standing

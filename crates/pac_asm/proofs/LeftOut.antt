@@ -1,8 +1,8 @@
 -- Lines that are skipped leave nothing in a program.
-use Rattle.std.proofs.Common.{◌≡◌, ℕ, ◌+◌, suc, false, List, [], ◌∷◌, ◌++◌, Some, Result, Ok, Err, length, refl, sym}
-use Rattle.std.proofs.Common.{◌∙◌, ap, append_assoc, append-nil, length-append, arith, ltb}
+use Rattle.std.proofs.lemmas.Grind.{common_steps}
+use Rattle.std.proofs.Common.{◌≡◌, ℕ, ◌+◌, suc, false, List, [], ◌∷◌, ◌++◌, Some, Result, Ok, length, refl, sym}
+use Rattle.std.proofs.Common.{◌∙◌, ap, append_assoc, append-nil, length-append, arith, rules}
 use Rattle.std.specs.Prelude.{slice_get}
-use Rattle.std.specs.Str.Lines.{lines as text_lines}
 use Rattle.std.proofs.lemmas.Option.{same_Some}
 use Rattle.pac_lemmas.proofs.Lists.{slice_get-after}
 use Rattle.pac_lemmas.proofs.Options.{same-Ok}
@@ -13,29 +13,24 @@ use Rattle.pac_asm_program.specs.declared.line.Line.TheVariants as entries
 use Rattle.pac_asm.specs.declared.place.LineLayout.{LineLayout}
 use Rattle.pac_asm.specs.declared.place.LineLayout.TheVariants.{Skipped}
 use Rattle.pac_asm.specs.declared.fault.AsmCode.{AsmCode}
-use Rattle.pac_asm.specs.declared.fault.AsmCode.TheVariants.{TooManyLines}
 use Rattle.pac_asm.specs.declared.fault.AsmFault.{AsmFault}
 use Rattle.pac_asm.specs.Results.{◌>>=◌, result_of_line}
 use Rattle.pac_asm.specs.Conditions.{is_judged}
-use Rattle.pac_asm.specs.Unclosed.{conditional_of_line, is_never_closed}
+use Rattle.pac_asm.specs.Unclosed.{conditional_of_line}
 use Rattle.pac_asm.specs.Standings.{Standing, first_standing}
 use Rattle.pac_asm.specs.Phase1.{after_text, after_line, phase1}
 use Rattle.pac_asm.specs.Phase2.{line_at_place, phase2}
 use Rattle.pac_asm.specs.Items.{AllFit}
-use Rattle.pac_asm.specs.Programs.{most_lines, program_of}
+use Rattle.pac_asm.specs.Programs.{program_of}
 use Rattle.pac_asm.specs.Skipping.{after_texts, IsLeftOutIfSkipped, SkippedLinesAreLeftOut}
 use Rattle.pac_asm.proofs.Skipping.{passed-over}
-use Rattle.pac_asm.proofs.Sizes.{Adds, Lays, then-ok, if-ok, none-ok, text, laid, closed-ok, in_line-ok}
-
--- ---- lists
+use Rattle.pac_asm.proofs.Sizes.{Adds, Lays, then-ok, if-ok, none-ok, text, laid}
 
 -- ---- the first phase
 
 taken-ok : (number : ℕ) (old new : Standing) (line : List ℕ) (below : List (List ℕ))
     → result_of_line number (after_line old line below) ≡ Ok new → after_text old line ≡ Ok new
-taken-ok number old new line below e =
-    closed-ok (is_never_closed (conditional_of_line line) below) (after_text old line) new
-    (in_line-ok number (after_line old line below) new e)
+taken-ok number old new line below e = search rules
 
 -- lines one after another, as the first phase takes them
 all-texts : (number : ℕ) (old new : Standing) (lines : List (List ℕ)) → phase1 number old lines ≡ Ok new → after_texts old lines ≡ Ok new
@@ -43,9 +38,7 @@ unfolding phase1 after_texts
 all-texts number old new [] e = let same : old ≡ new = cc in ap (λ (s : Standing). Ok s) same
 all-texts number old new (line ∷ below) e =
     then-ok (λ (new : Standing). after_texts old (line ∷ below) ≡ Ok new) (result_of_line number (after_line old line below)) _
-    (λ after y e1 e2.
-    ap (λ (r : Result Standing AsmCode). r >>= λ after. after_texts after below) (taken-ok number old after line below e1)
-    ∙ all-texts (number + 1) after y below e2) new e
+    (λ after y e1 e2. cc (taken-ok number old after line below e1, all-texts (number + 1) after y below e2)) new e
 
 -- what stands above a line, after it and at the end, and the places of all lines, the line's own among them
 record Reached (old new : Standing) (texts : List (List ℕ)) (line : List ℕ) (below : List (List ℕ)) : Type 0 where
@@ -85,9 +78,7 @@ reach number old new [] below line e =
       before = [];
       place = one.place;
       more = rest.places;
-      places =
-          rest.added ∙ ap (λ (places : List LineLayout). places ++ rest.places) one.added
-          ∙ append_assoc old.places (one.place ∷ []) rest.places;
+      places = grind (arith, common_steps);
       fit = tt;
       others = all-texts (number + 1) after y below e2;
       skipped = own-place old after line one.place one.added taken;
@@ -107,9 +98,7 @@ reach number old new (first ∷ texts) below line e =
       before = one.place ∷ rest.before;
       place = rest.place;
       more = rest.more;
-      places =
-          rest.places ∙ ap (λ (places : List LineLayout). places ++ (rest.before ++ rest.place ∷ rest.more)) one.added
-          ∙ append_assoc old.places (one.place ∷ []) (rest.before ++ rest.place ∷ rest.more);
+      places = grind (arith, common_steps);
       fit = (one.fit, rest.fit);
       others = rest.others;
       skipped = rest.skipped;
@@ -128,13 +117,12 @@ stays filled out e = record { more = []; grown = sym (same-Ok filled out e) ∙ 
 grows : (symbols : List Symbol) (number : ℕ) (filled : List Line) (texts : List (List ℕ)) (places : List LineLayout) (out : List Line)
     → phase2 symbols number filled texts places ≡ Ok out → Grows filled out
 unfolding phase2
-grows symbols number filled [] places out e = stays filled out e
-grows symbols number filled (top ∷ texts) [] out e = stays filled out e
 grows symbols number filled (top ∷ texts) (place ∷ places) out e =
     then-ok (λ (out : List Line). Grows filled out) (result_of_line number (line_at_place symbols top place)) _
     (λ here y e1 e2.
     let rest : Grows (filled ++ here ∷ []) y = grows symbols (number + 1) (filled ++ here ∷ []) texts places y e2 in
     record { more = here ∷ rest.more; grown = rest.grown ∙ append_assoc filled (here ∷ []) rest.more }) out e
+grows symbols number filled texts places out e = stays filled out e
 
 -- the entry of a line with a skipped place
 entry : (symbols : List Symbol) (number : ℕ) (filled : List Line) (texts below : List (List ℕ)) (line : List ℕ)
@@ -144,11 +132,8 @@ entry : (symbols : List Symbol) (number : ℕ) (filled : List Line) (texts below
 unfolding phase2
 entry symbols number filled [] below line [] more out fit e =
     let rest : Grows (filled ++ entries.Skipped ∷ []) out = grows symbols (number + 1) (filled ++ entries.Skipped ∷ []) below more out e in
-    let at : length filled + 0 ≡ length filled = omega (arith) in
-    ap (slice_get out) at ∙ ap (λ (lines : List Line). slice_get lines (length filled))
-    (rest.grown ∙ append_assoc filled (entries.Skipped ∷ []) rest.more) ∙ slice_get-after filled entries.Skipped rest.more
-entry symbols number filled [] below line (place ∷ before) more out fit e = absurd fit
-entry symbols number filled (top ∷ texts) below line [] more out fit e = absurd fit
+    let at : length filled + 0 ≡ length filled = omega arith in
+    cc (at, rest.grown, append_assoc filled (entries.Skipped ∷ []) rest.more, slice_get-after filled entries.Skipped rest.more)
 entry symbols number filled (top ∷ texts) below line (place ∷ before) more out fit e =
     then-ok (λ (out : List Line). slice_get out (length filled + suc (length texts)) ≡ Some entries.Skipped)
     (result_of_line number (line_at_place symbols top place)) _
@@ -156,6 +141,7 @@ entry symbols number filled (top ∷ texts) below line (place ∷ before) more o
     let at : length filled + suc (length texts) ≡ length (filled ++ here ∷ []) + length texts =
     omega (arith, length-append filled (here ∷ [])) in
     ap (slice_get y) at ∙ entry symbols (number + 1) (filled ++ here ∷ []) texts below line before more y fit.1 e2) out e
+entry symbols number filled texts below line before more out fit e = absurd fit
 
 -- ---- the program
 
@@ -165,12 +151,7 @@ record Has (program : Assembled) (filled : List Line) (found : List Symbol) : Ty
   symbols : program.symbols ≡ found
 
 has : (made program : Assembled) → ◌≡◌ {A = Result Assembled AsmFault} (Ok made) (Ok program) → Has program made.lines made.symbols
-has made program e =
-    let same : made ≡ program = cc in
-    record {
-      lines = ap (λ (some : Assembled). some.lines) same;
-      symbols = ap (λ (some : Assembled). some.symbols) (sym same);
-    }
+has made program e = search rules
 
 left-out : (texts below : List (List ℕ)) (line : List ℕ) (program : Assembled) (new : Standing) (filled : List Line)
     → phase1 1 first_standing (texts ++ line ∷ below) ≡ Ok new → phase2 new.symbols 1 [] (texts ++ line ∷ below) new.places ≡ Ok filled
@@ -198,20 +179,8 @@ left-out texts below line program new filled first second made =
 by-lines : (all texts below : List (List ℕ)) (line : List ℕ) (program : Assembled) → all ≡ texts ++ line ∷ below
     → (new : Standing) (filled : List Line) → phase1 1 first_standing all ≡ Ok new → phase2 new.symbols 1 [] all new.places ≡ Ok filled
     → Has program filled new.symbols → IsLeftOutIfSkipped program texts line below
-by-lines all texts below line program parts new filled first second made =
-    left-out texts below line program new filled
-    (ap (phase1 1 first_standing) (sym parts) ∙ first)
-    (ap (λ (all : List (List ℕ)). phase2 new.symbols 1 [] all new.places) (sym parts) ∙ second) made
+by-lines all texts below line program parts new filled first second made = grind (arith, left-out)
 
 pub skipped-lines-are-left-out : SkippedLinesAreLeftOut
 unfolding program_of
-skipped-lines-are-left-out source program e texts below line parts =
-    let P : Assembled → Type 0 = λ (program : Assembled). IsLeftOutIfSkipped program texts line below in
-    if-ok P (ltb most_lines (length (text_lines source))) (Err (record { code = TooManyLines; line = most_lines + 1 })) _
-    (λ y e. none-ok P (record { code = TooManyLines; line = most_lines + 1 }) y e)
-    (λ y e.
-    then-ok P (phase1 1 first_standing (text_lines source)) _
-    (λ after y e1 e2.
-    then-ok P (phase2 after.symbols 1 [] (text_lines source) after.places) _
-    (λ filled y e3 e4. by-lines (text_lines source) texts below line y parts after filled e1 e3 (has _ y e4)) y e2) y e)
-    program e
+skipped-lines-are-left-out source program e texts below line parts = grind (arith, by-lines, has, if-ok, none-ok, then-ok)

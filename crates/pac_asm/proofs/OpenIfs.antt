@@ -1,5 +1,5 @@
 -- The open IFs of the first phase, as lines are counted by.
-use Rattle.std.proofs.Common.{◌≡◌, ℤ, pos, Bool, true, false, not, List, [], ◌∷◌, Option, Some, None, Result, Ok, Err, ◌||◌}
+use Rattle.std.proofs.Common.{◌≡◌, ℤ, pos, Bool, true, false, not, List, [], ◌∷◌, Option, Some, None, Result, Ok, Err, rules}
 use Rattle.std.proofs.Common.{refl, ap, sym, subst, if◌then◌else◌, nat_lt, length}
 use Rattle.std.specs.Ordering.{int_eq}
 use Rattle.std.proofs.lemmas.Bool.{or_parts}
@@ -45,36 +45,13 @@ none-open = refl
 
 -- ---- which lines are read whole
 
-read-in : (inner : IfState) (outer : List OpenIf) (word : Option Conditional) → IsAmong inner (counts outer) → (all : List IfState)
-    → is_judged (inner ∷ all) word ≡ is_read (open_of inner ∷ outer) word
-read-in Met outer word e all = sym (ap (λ around. around || ends_part (open_of Met ∷ outer) word) e)
-read-in Otherwise outer word e all = sym (ap (λ around. around || ends_part (open_of Otherwise ∷ outer) word) e)
-read-in Unmet outer (Some If) e all = refl
-read-in Unmet outer (Some Else) e all = sym e
-read-in Unmet outer (Some EndIf) e all = sym e
-read-in Unmet outer None e all = refl
-read-in Over outer (Some If) e all = refl
-read-in Over outer (Some Else) e all = refl
-read-in Over outer (Some EndIf) e all = sym e
-read-in Over outer None e all = refl
-read-in Passed outer (Some If) e all = refl
-read-in Passed outer (Some Else) e all = sym e
-read-in Passed outer (Some EndIf) e all = sym e
-read-in Passed outer None e all = refl
-
 pub read-same : (conditions : List IfState) (word : Option Conditional) → AreNested conditions
     → is_judged conditions word ≡ is_read (opens conditions) word
-read-same [] word nested = refl
-read-same (inner ∷ outer) word nested = read-in inner (opens outer) word nested.0 outer
+read-same conditions word nested = search rules
 
 -- an IF that is read stands where lines count, and one that is skipped where they don't
 pub counts-if : (ifs : List OpenIf) → is_read ifs (Some If) ≡ true → counts ifs ≡ true
-counts-if [] e = refl
-counts-if (inner ∷ outer) e = or-none (counts (inner ∷ outer)) e
-  where
-    or-none : (b : Bool) → (b || false) ≡ true → b ≡ true
-    or-none true e = refl
-    or-none false e = absurd cc
+counts-if ifs e = search rules
 
 pub counts-none : (ifs : List OpenIf) (word : Option Conditional) → is_read ifs word ≡ false → counts ifs ≡ false
 counts-none ifs word e = (or_parts (counts ifs) (ends_part ifs word) e).0
@@ -107,8 +84,7 @@ open-end (inner ∷ outer) next nested e = open-at _ outer next e refl nested.1
 passed-if : (b : Bool) (conditions next : List IfState) → AreNested conditions → counts (opens conditions) ≡ false
     → (if b then Ok (Passed ∷ conditions) else Err TooDeep) ≡ Ok next
     → AreOpen (Some (record { is_true = false; is_parted = false } ∷ opens conditions)) next
-passed-if true conditions next nested out e = open-at _ (Passed ∷ conditions) next e refl (out, nested)
-passed-if false conditions next nested out e = absurd cc
+passed-if b conditions next nested out e = search rules
 
 pub open-skipped : (word : Option Conditional) (conditions next : List IfState) → AreNested conditions → counts (opens conditions) ≡ false
     → after_skipped word conditions ≡ Ok next → AreOpen (Some (behind_skipped word (opens conditions))) next
@@ -119,12 +95,10 @@ open-skipped (Some EndIf) (inner ∷ outer) next nested out e = open-at _ outer 
 open-skipped None conditions next nested out e = open-at _ conditions next e refl nested
 
 value-open : (b : Bool) → open_of (if b then Unmet else Met) ≡ record { is_true = not b; is_parted = false }
-value-open true = refl
-value-open false = refl
+value-open b = search rules
 
 value-among : (b around : Bool) → around ≡ true → IsAmong (if b then Unmet else Met) around
-value-among true around e = e
-value-among false around e = e
+value-among b around e = search rules
 
 pub open-if : (value : ℤ) (conditions : List IfState) → AreNested conditions → counts (opens conditions) ≡ true
     → AreOpen (Some (record { is_true = is_nonzero value; is_parted = false } ∷ opens conditions)) (condition_of value ∷ conditions)

@@ -1,14 +1,12 @@
 -- A part ends at its comma.
-use Rattle.std.proofs.Common.{◌≡◌, ℕ, ◌+◌, ◌-◌, ◌<◌, ◌≤◌, Bool, not, cond, List, [], ◌∷◌, length, take, drop}
-use Rattle.std.proofs.Common.{refl, sym, ◌∙◌, ap, arith, inl, inr}
+use Rattle.std.proofs.Common.{◌≡◌, ℕ, ◌+◌, ◌-◌, ◌<◌, ◌≤◌, Bool, not, cond, List, [], ◌∷◌, length, take, drop, rules, refl, sym, ◌∙◌, ap}
+use Rattle.std.proofs.Common.{arith, inl, inr, length-drop}
 use Rattle.std.specs.List.{slice_split, onto_first, position_or_len}
 use Rattle.std.proofs.lemmas.Bool.{cases_Bool}
 use Rattle.std.proofs.lemmas.List.{take-map, drop-map, length-map}
-use Rattle.std.proofs.Common.{length-drop}
 use Rattle.std.proofs.Math.Seq.{take-length}
 use Rattle.std.proofs.lemmas.List.Splits.{slice_split-cons_no, slice_split_first}
 use Rattle.pac_lex.specs.declared.token.Token.{Token}
-use Rattle.pac_lex.specs.Tokens.{Lexeme}
 use Rattle.pac_lex.specs.TokensProofs.{view, views}
 use Rattle.pac_asm_operation.specs.Operands.{is_comma}
 
@@ -17,9 +15,7 @@ one-part : {X : Type 0} (p : X → Bool) (xs : List X) → length xs ≤ positio
 one-part p [] past = refl
 one-part p (x ∷ xs) past =
     elim (cases_Bool (p x)) [
-      | inl passes ↦
-          let none : position_or_len p (x ∷ xs) ≡ 0 = ap (λ b. cond (not b) (1 + position_or_len p xs) 0) passes in
-          absurd (omega (arith, past, none))
+      | inl passes ↦ search rules
       | inr fails ↦
           let more : position_or_len p (x ∷ xs) ≡ 1 + position_or_len p xs = ap (λ b. cond (not b) (1 + position_or_len p xs) 0) fails in
           slice_split-cons_no p x xs fails ∙ ap (onto_first x) (one-part p xs (omega (arith, past, more)))
@@ -36,11 +32,4 @@ rest-taken tokens k = ap (λ n. take n (drop k tokens)) (sym (length-drop k toke
 pub first-part : (tokens : List Token) (at : ℕ) → at ≡ position_or_len is_comma (views tokens) → at < length tokens →
     slice_split is_comma (views tokens) ≡
     views (take at tokens) ∷ slice_split is_comma (views (take (length tokens - (at + 1)) (drop (at + 1) tokens)))
-first-part [] at is below = absurd (omega (arith, below))
-first-part (token ∷ tokens) at is below =
-    let lexemes = views (token ∷ tokens) in
-    slice_split_first is_comma lexemes (view token) (omega (arith, is, below, length-map (token ∷ tokens) view)) ∙
-    ap (λ (n : ℕ). take n lexemes ∷ slice_split is_comma (drop (n + 1) lexemes)) (sym is) ∙
-    ap (λ (xs : List Lexeme). xs ∷ slice_split is_comma (drop (at + 1) lexemes)) (take-map view at (token ∷ tokens)) ∙
-    ap (λ (xs : List Lexeme). views (take at (token ∷ tokens)) ∷ slice_split is_comma xs)
-    (drop-map view (at + 1) (token ∷ tokens) ∙ ap views (sym (rest-taken (token ∷ tokens) (at + 1))))
+first-part tokens at is below = grind (arith, drop-map, length-map, rest-taken, slice_split_first, take-map)

@@ -1,5 +1,5 @@
 -- The reserved words are distinct, and all that are reserved.
-use Rattle.std.proofs.Common.{◌≡◌, ℕ, true, ◌||◌, List, ◌++◌, refl, sym, ◌∙◌, ap}
+use Rattle.std.proofs.Common.{◌≡◌, ℕ, true, List, refl, arith}
 use Rattle.std.specs.Prelude.{is_some}
 use Rattle.std.specs.List.{list_any}
 use Rattle.std.specs.Map.{keys_of}
@@ -26,13 +26,7 @@ unfolding directive_of
 directed word = is_some-lookup (is_written word) directive_names
 
 all-of : (word : List ℕ) → is_reserved word ≡ list_any (is_written word) reserved_words
-all-of word =
-    ap (λ b. b || is_some (name_of word) || is_directive word) (operation_names_are_distinct.all word) ∙
-    ap (λ b. list_any (is_written word) operation_names || b || is_directive word) (named word) ∙
-    ap (λ b. list_any (is_written word) operation_names || list_any (is_written word) (keys_of name_texts) || b) (directed word) ∙
-    ap (λ b. b || list_any (is_written word) (keys_of directive_names))
-    (sym (list_any-append (is_written word) operation_names (keys_of name_texts))) ∙
-    sym (list_any-append (is_written word) (operation_names ++ keys_of name_texts) (keys_of directive_names))
+all-of word = grind (arith, directed, list_any-append, named, operation_names_are_distinct)
 
 pub reserved_words_are_distinct : ReservedWordsAreDistinct
 reserved_words_are_distinct = record { distinct = distinct-by-test is_written reserved_words test; all = all-of }

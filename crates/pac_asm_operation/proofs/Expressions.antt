@@ -1,8 +1,9 @@
 -- An expression in parentheses as a whole is a group, and its tokens between them are an expression; another one isn't.
-use Rattle.std.proofs.Common.{◌≡◌, ℕ, suc, ◌-◌, Bool, true, false, ◌&&◌, ◌||◌, if◌then◌else◌, List, [], ◌∷◌, ◌++◌, length, take}
-use Rattle.std.proofs.Common.{refl, sym, ◌∙◌, ap, subst, arith, slice_get}
+use Rattle.std.proofs.lemmas.Grind.{common_steps}
+use Rattle.std.proofs.Common.{◌≡◌, ℕ, ◌-◌, Bool, true, false, ◌&&◌, ◌||◌, if◌then◌else◌, List, [], ◌∷◌, ◌++◌, length, take}
+use Rattle.std.proofs.Common.{refl, sym, ◌∙◌, ap, arith, slice_get, rules}
 use Rattle.std.specs.Prelude.{Option, Some, None, is_some, option_map}
-use Rattle.std.specs.Option.{unwrap_or, option_map_or}
+use Rattle.std.specs.Option.{unwrap_or}
 use Rattle.std.specs.List.{list_any}
 use Rattle.std.proofs.lemmas.Bool.{and_parts, false≢true, or_parts}
 use Rattle.pac_lex.specs.declared.token.Token.{Token}
@@ -10,16 +11,14 @@ use Rattle.pac_lex.specs.declared.token.TokenKind.{TokenKind}
 use Rattle.pac_lex.specs.declared.token.TokenKind.TheVariants as kinds
 use Rattle.pac_lex.specs.Tokens.{Lexeme}
 use Rattle.pac_lex.specs.TokensProofs.{views}
-use Rattle.pac_lex.specs.TextsProofs.{one_character}
-use Rattle.pac_expr.specs.Trees.{Tree, atom, group, signed, joined, here, Mark, opening, closing, kind_mark, marks_of, spelling}
-use Rattle.pac_expr.specs.Trees as trees
+use Rattle.pac_expr.specs.Trees.{Tree, atom, group, here, Mark, opening, closing, kind_mark, marks_of, spelling}
 use Rattle.pac_expr.specs.ParsingProofs.{tree_of}
 use Rattle.pac_expr.specs.Parsing.{tree_in}
 use Rattle.pac_expr.proofs.Complete.{tree-of-spelling}
 use Rattle.pac_table.specs.declared.operands.Name.{Name}
 use Rattle.pac_asm_operation.specs.declared.operand.Operand.TheVariants.{Indexed, Memory, Value}
 use Rattle.pac_asm_operation.specs.Reserved.{reserves, is_reserved_token, expression_in}
-use Rattle.pac_asm_operation.specs.Operands.{opens, closes, ends_closed, is_sign, operand_of_tree, expression_operand, indirect_operand}
+use Rattle.pac_asm_operation.specs.Operands.{opens, closes, ends_closed, is_sign, expression_operand, indirect_operand}
 use Rattle.pac_asm_operation.specs.Views.{tree_of_tokens, tree_within, IsTree, inside_parentheses}
 
 -- ---- the last token
@@ -28,26 +27,18 @@ abbrev pub front : List Lexeme → List Lexeme
 front tokens = take (length tokens - 1) tokens
 
 pub ends-last : (inner : List Lexeme) (last : Lexeme) → ends_closed (inner ++ last ∷ []) ≡ closes last.kind
-ends-last [] last = refl
-ends-last (x ∷ []) last = refl
 ends-last (x ∷ y ∷ inner) last = ends-last (y ∷ inner) last
+ends-last inner last = refl
 
 front-more : (x y : Lexeme) (rest : List Lexeme) → front (x ∷ y ∷ rest) ≡ x ∷ front (y ∷ rest)
-front-more x y rest =
-    let count : length (x ∷ y ∷ rest) - 1 ≡ suc (length (y ∷ rest) - 1) = omega arith in
-    ap (λ n. take n (x ∷ y ∷ rest)) count
+front-more x y rest = search rules
 
 pub front-last : (inner : List Lexeme) (last : Lexeme) → front (inner ++ last ∷ []) ≡ inner
-front-last [] last = refl
-front-last (x ∷ []) last = front-more x last [] ∙ ap (λ (xs : List Lexeme). x ∷ xs) (front-last [] last)
-front-last (x ∷ y ∷ inner) last =
-    front-more x y (inner ++ last ∷ []) ∙ ap (λ (xs : List Lexeme). x ∷ xs) (front-last (y ∷ inner) last)
+front-last inner last = grind (arith, common_steps)
 
 pub closed-front : (inner : List Lexeme) (last : Lexeme) →
     (if ends_closed (inner ++ last ∷ []) then Some (front (inner ++ last ∷ [])) else None) ≡ (if closes last.kind then Some inner else None)
-closed-front inner last =
-    ap (λ (b : Bool). if b then Some (front (inner ++ last ∷ [])) else None) (ends-last inner last) ∙
-    ap (λ (xs : List Lexeme). if closes last.kind then Some xs else None) (front-last inner last)
+closed-front inner last = grind (arith, ends-last, front-last)
 
 -- ---- parentheses as marks
 
@@ -56,48 +47,27 @@ opens-mark kinds.Open text is = refl
 opens-mark _ text is = absurd (false≢true is)
 
 closes-mark : (kind : TokenKind) (text : List ℕ) → closes kind ≡ true → kind_mark kind text ≡ closing
-closes-mark kinds.Close text is = refl
-closes-mark _ text is = absurd (false≢true is)
-
-text-opens : (character : Option ℕ) → option_map_or (λ c. trees.single (trees.character c)) character trees.other ≡ opening → ⊥
-text-opens None is = absurd (cc)
-text-opens (Some c) is = absurd (cc)
-
-text-closes : (character : Option ℕ) → option_map_or (λ c. trees.single (trees.character c)) character trees.other ≡ closing → ⊥
-text-closes None is = absurd (cc)
-text-closes (Some c) is = absurd (cc)
+closes-mark kind text is = search rules
 
 mark-opens : (kind : TokenKind) (text : List ℕ) → kind_mark kind text ≡ opening → opens kind ≡ true
-mark-opens kinds.Open text is = refl
-mark-opens kinds.Text text is = absurd (text-opens (one_character text) is)
-mark-opens _ text is = absurd (cc)
-
-mark-closes : (kind : TokenKind) (text : List ℕ) → kind_mark kind text ≡ closing → closes kind ≡ true
-mark-closes kinds.Close text is = refl
-mark-closes kinds.Text text is = absurd (text-closes (one_character text) is)
-mark-closes _ text is = absurd (cc)
+mark-opens kind text is = search rules
 
 open-free : (kind : TokenKind) (text : List ℕ) → opens kind ≡ true → reserves kind text ≡ false
 open-free kinds.Open text is = refl
 open-free _ text is = absurd (false≢true is)
 
 close-free : (kind : TokenKind) (text : List ℕ) → closes kind ≡ true → reserves kind text ≡ false
-close-free kinds.Close text is = refl
-close-free _ text is = absurd (false≢true is)
+close-free kind text is = search rules
 
 closed-marks : (rest : List Lexeme) → ends_closed rest ≡ true → marks_of rest ≡ marks_of (front rest) ++ closing ∷ []
 closed-marks [] is = absurd (false≢true is)
 closed-marks (x ∷ []) is = ap (λ (m : Mark). m ∷ []) (closes-mark x.kind x.text is)
-closed-marks (x ∷ y ∷ rest) is =
-    ap (λ (ms : List Mark). kind_mark x.kind x.text ∷ ms) (closed-marks (y ∷ rest) is) ∙
-    ap (λ (xs : List Lexeme). marks_of xs ++ closing ∷ []) (sym (front-more x y rest))
+closed-marks (x ∷ y ∷ rest) is = cc (closed-marks (y ∷ rest) is, front-more x y rest)
 
 closed-free : (rest : List Lexeme) → ends_closed rest ≡ true → list_any is_reserved_token rest ≡ list_any is_reserved_token (front rest)
 closed-free [] is = absurd (false≢true is)
 closed-free (x ∷ []) is = ap (λ b. b || false) (close-free x.kind x.text is)
-closed-free (x ∷ y ∷ rest) is =
-    ap (λ b. is_reserved_token x || b) (closed-free (y ∷ rest) is) ∙
-    ap (list_any is_reserved_token) (sym (front-more x y rest))
+closed-free (x ∷ y ∷ rest) is = cc (closed-free (y ∷ rest) is, front-more x y rest)
 
 pub record ClosedBy (rest : List Lexeme) (inner : List Mark) : Type 0 where
   pub ends : ends_closed rest ≡ true
@@ -106,21 +76,14 @@ pub record ClosedBy (rest : List Lexeme) (inner : List Mark) : Type 0 where
 closed-by : (rest : List Lexeme) (inner : List Mark) → marks_of rest ≡ inner ++ closing ∷ [] → ClosedBy rest inner
 closed-by [] [] is = absurd (cc)
 closed-by [] (m ∷ inner) is = absurd (cc)
-closed-by (x ∷ []) [] is =
-    let same : kind_mark x.kind x.text ≡ closing = cc in record { ends = mark-closes x.kind x.text same; marks = refl }
+closed-by (x ∷ []) [] is = search rules
 closed-by (x ∷ []) (m ∷ []) is = absurd (cc)
 closed-by (x ∷ []) (m ∷ n ∷ inner) is = absurd (cc)
 closed-by (x ∷ y ∷ rest) [] is = absurd (cc)
 closed-by (x ∷ y ∷ rest) (m ∷ inner) is =
     let first : kind_mark x.kind x.text ≡ m = cc in
     let others : marks_of (y ∷ rest) ≡ inner ++ closing ∷ [] = cc in
-    let more = closed-by (y ∷ rest) inner others in
-    record {
-      ends = more.ends;
-      marks =
-          ap marks_of (front-more x y rest) ∙ ap (λ (ms : List Mark). kind_mark x.kind x.text ∷ ms) more.marks ∙
-          ap (λ (one : Mark). one ∷ inner) first;
-    }
+    let more = closed-by (y ∷ rest) inner others in grind (arith, front-more)
 
 -- ---- groups
 
@@ -138,8 +101,7 @@ inner-tree t ms is =
 
 -- an expression has no reserved name, and is the tree of its tokens
 free-parts : (b : Bool) (o : Option Tree) (t : Tree) → (if b then None else o) ≡ Some t → (b ≡ false) × (o ≡ Some t)
-free-parts true o t is = absurd (cc)
-free-parts false o t is = (refl, is)
+free-parts b o t is = search rules
 
 pub expression-parts : (tokens : List Lexeme) (t : Tree) → expression_in tokens ≡ Some t →
     (list_any is_reserved_token tokens ≡ false) × (tree_of (marks_of tokens) ≡ Some t)
@@ -157,24 +119,16 @@ group-expression first rest t opened closed is =
     let parts = expression-parts (front rest) t is in
     expression-from (first ∷ rest) (group t)
     (ap (λ b. b || list_any is_reserved_token rest) (open-free first.kind first.text opened) ∙ closed-free rest closed ∙ parts.0)
-    (ap tree_of
-    (ap (λ (m : Mark). m ∷ marks_of rest) (opens-mark first.kind first.text opened) ∙
-    ap (λ (ms : List Mark). opening ∷ ms) (closed-marks rest closed)) ∙
-    group-tree (marks_of (front rest)) t parts.1)
+    (grind (arith, closed-marks, group-tree))
 
 -- ---- operands by their expression
 
 between-parts : (b : Bool) (before inner : List Lexeme) → (if b then Some before else None) ≡ Some inner → (b ≡ true) × (before ≡ inner)
-between-parts true before inner is = (refl, cc)
-between-parts false before inner is = absurd (cc)
+between-parts b before inner is = search rules
 
 pub memory-found : (tokens inner : List Lexeme) (t : Tree) → inside_parentheses tokens ≡ Some inner → expression_in inner ≡ Some t →
     expression_operand tokens ≡ Some (Memory t)
-memory-found [] inner t stands is = absurd (cc)
-memory-found (first ∷ rest) inner t stands is =
-    let parts = between-parts (opens first.kind && ends_closed rest) (front rest) inner stands in
-    let both = and_parts (opens first.kind) (ends_closed rest) parts.0 in
-    ap (option_map operand_of_tree) (group-expression first rest t both.0 both.1 (ap expression_in parts.1 ∙ is))
+memory-found tokens inner t stands is = grind (arith, and_parts, between-parts, group-expression)
 
 no-group : (tokens : List Lexeme) (t : Tree) → expression_in tokens ≡ Some (group t) →
     ((inner : List Lexeme) → inside_parentheses tokens ≡ Some inner → is_some (expression_in inner) ≡ false) → ⊥
@@ -184,7 +138,6 @@ no-group [] t is none =
 no-group (first ∷ rest) t is none =
     let parts = expression-parts (first ∷ rest) (group t) is in
     let inside = inner-tree t (marks_of (first ∷ rest)) parts.1 in
-    let whole : kind_mark first.kind first.text ∷ marks_of rest ≡ opening ∷ (spelling t ++ closing ∷ []) = inside.0 in
     let one : kind_mark first.kind first.text ≡ opening = cc in
     let others : marks_of rest ≡ spelling t ++ closing ∷ [] = cc in
     let closed = closed-by rest (spelling t) others in
@@ -200,16 +153,12 @@ no-group (first ∷ rest) t is none =
 pub value-found : (tokens : List Lexeme) (t : Tree) → expression_in tokens ≡ Some t →
     ((inner : List Lexeme) → inside_parentheses tokens ≡ Some inner → is_some (expression_in inner) ≡ false) →
     expression_operand tokens ≡ Some (Value t)
-value-found tokens (atom a) is none = ap (option_map operand_of_tree) is
-value-found tokens (group t) is none = absurd (no-group tokens t is none)
-value-found tokens (signed sign t) is none = ap (option_map operand_of_tree) is
-value-found tokens (joined operator left right) is none = ap (option_map operand_of_tree) is
+value-found tokens t is none = grind (arith, no-group)
 
 -- ---- trees of tokens
 
 some-within : (o : Option Tree) (d : Tree) → is_some o ≡ true → o ≡ Some (unwrap_or o d)
-some-within None d is = absurd (false≢true is)
-some-within (Some t) d is = refl
+some-within o d is = search rules
 
 pub is-tree : (tokens : List Token) → is_some (expression_in (views tokens)) ≡ true → IsTree tokens
 unfolding tree_of_tokens
@@ -217,10 +166,7 @@ is-tree tokens is = some-within (expression_in (views tokens)) (atom here) is
 
 pub none-inside : (tokens inner : List Lexeme) → Some inner ≡ inside_parentheses tokens → false ≡ is_some (expression_in inner) →
     (other : List Lexeme) → inside_parentheses tokens ≡ Some other → is_some (expression_in other) ≡ false
-none-inside tokens inner stands none other also =
-    let both : Some inner ≡ Some other = stands ∙ also in
-    let same : inner ≡ other = cc both in
-    subst (λ (xs : List Lexeme). is_some (expression_in xs) ≡ false) same (sym none)
+none-inside tokens inner stands none other also = search rules
 
 pub none-between : (tokens : List Lexeme) → None ≡ inside_parentheses tokens →
     (other : List Lexeme) → inside_parentheses tokens ≡ Some other → is_some (expression_in other) ≡ false
@@ -229,11 +175,7 @@ none-between tokens none other also = let both : None ≡ Some other = none ∙ 
 pub displaced-found : (name : Name) (tokens : List Token) (first : Token) → Some first ≡ slice_get tokens 0 → is_sign first.kind ≡ true →
     IsTree tokens → indirect_operand name (views tokens) ≡ Some (Indexed name (tree_within tokens))
 displaced-found name [] first is sign known = absurd (cc)
-displaced-found name (x ∷ rest) first is sign known =
-    let same : first ≡ x = cc in
-    ap (λ (b : Bool). if b then option_map (Indexed name) (expression_in (views (x ∷ rest))) else None)
-    (ap (λ (token : Token). is_sign token.kind) (sym same) ∙ sign) ∙
-    ap (option_map (Indexed name)) known
+displaced-found name (x ∷ rest) first is sign known = search rules
 
 -- the value of an expression of the source is that of its tree
 pub known-tree : (tokens : List Token) → IsTree tokens → tree_in (views tokens) ≡ Some (tree_within tokens)
@@ -243,9 +185,7 @@ known-tree tokens known = (expression-parts (views tokens) (tree_within tokens) 
 pub answer-is : {A : Type 0} (f : Tree → A) (found : Option Tree) (t : Tree) (answer : A) → Some answer ≡ option_map f found →
     found ≡ Some t →
     answer ≡ f t
-answer-is f None t answer is stands = absurd (cc)
-answer-is f (Some u) t answer is stands = cc
+answer-is f found t answer is stands = search rules
 
 pub answer-stands : {A : Type 0} (f : Tree → A) (found : Option Tree) (t : Tree) → None ≡ option_map f found → found ≡ Some t → ⊥
-answer-stands f None t is stands = absurd (cc)
-answer-stands f (Some u) t is stands = absurd (cc)
+answer-stands f found t is stands = search rules

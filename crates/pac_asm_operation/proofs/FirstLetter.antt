@@ -1,11 +1,9 @@
 -- The directives are found by their first letter.
-use Rattle.std.proofs.Common.{◌≡◌, ℕ, List, [], ◌∷◌, slice_get, refl, ◌∙◌, ap}
+use Rattle.std.proofs.Common.{◌≡◌, ℕ, List, [], ◌∷◌, slice_get, refl, rules}
 use Rattle.std.specs.Prelude.{Some, None}
 use Rattle.std.specs.List.{filter}
 use Rattle.std.specs.Map.{lookup}
 use Rattle.std.specs.Str.{str_eq_ignore_ascii_case}
-use Rattle.pac_lemmas.proofs.Lookups.{lookup-filter}
-use Rattle.pac_lemmas.proofs.Letters.{same-first-letter}
 use Rattle.pac_asm_operation.specs.DirectivesProofs.{begins_directive}
 use Rattle.pac_asm_operation.specs.Directives.{directive_names, directive_of}
 
@@ -20,7 +18,4 @@ pub with-letter : (word : List ℕ) (b : ℕ) → Some b ≡ slice_get word 0 �
     lookup (str_eq_ignore_ascii_case word) (filter (begins_directive b) directive_names) ≡ directive_of word
 unfolding directive_of
 with-letter [] b is = absurd (cc)
-with-letter (x ∷ rest) b is =
-    let same : b ≡ x = cc in
-    ap (λ (y : ℕ). lookup (str_eq_ignore_ascii_case (x ∷ rest)) (filter (begins_directive y) directive_names)) same ∙
-    lookup-filter (str_eq_ignore_ascii_case (x ∷ rest)) (begins_directive x) directive_names (λ e is. same-first-letter x rest e.0 is)
+with-letter (x ∷ rest) b is = search rules

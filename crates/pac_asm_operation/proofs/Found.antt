@@ -1,40 +1,28 @@
 -- What an operation keeps is the operation of the definitions, and the instruction found in its rows is the first that
 -- the whole table has.
 use denote.Ref.{Bor}
-use Rattle.std.proofs.Common.{◌≡◌, ℕ, ◌+◌, ◌<◌, ℤ, pos, Bool, true, false, ◌&&◌, ◌==◌, if◌then◌else◌, []}
+use Rattle.std.proofs.Common.{◌≡◌, ℕ, ◌+◌, ◌<◌, ℤ, Bool, false, ◌&&◌, ◌==◌, if◌then◌else◌, [], rules}
 use Rattle.std.proofs.Common.{List, ◌∷◌, length, map, get_or, find, refl, sym, ◌∙◌, ap, arith}
-use Rattle.std.specs.Prelude.{Option, Some, None, is_some, option_map, IfSome, Result, Ok, Err, IfOk}
+use Rattle.std.specs.Prelude.{Option, Some, None, is_some, option_map, IfSome, Ok, Err, IfOk}
 use Rattle.std.specs.Option.{unwrap_or, ok_or, option_and_then}
 use Rattle.std.specs.List.{All}
 use Rattle.std.proofs.lemmas.Bool.{and_parts, eqb-true}
-use Rattle.pac_table.specs.declared.table.Row.{Row}
 use Rattle.pac_lemmas.proofs.Booleans.{and-false}
 use Rattle.pac_lemmas.proofs.Searches.{find-same, find-map-same, position-all-fail}
 use Rattle.pac_lex.specs.declared.token.Token.{Token}
-use Rattle.pac_lex.specs.Results.{◌>>=◌}
 use Rattle.pac_lex.specs.Tokens.{Lexeme}
 use Rattle.pac_expr.specs.Trees.{Tree}
 use Rattle.pac_table.specs.declared.operands.Operands.{Operands}
-use Rattle.pac_table.specs.declared.operands.Name.TheVariants as name
 use Rattle.pac_table.specs.declared.operands.Shape.{Shape}
-use Rattle.pac_table.specs.declared.operands.Shape.TheVariants as shape
-use Rattle.pac_table.specs.declared.patterns.Page.{Page}
-use Rattle.pac_table.specs.Patterns.{page_prefix, is_displacement_first, immediate_bytes, code_bytes}
-use Rattle.pac_table.specs.Table.{table}
-use Rattle.pac_table.specs.Instructions.{Instruction, row_at, row_count, opcode_of, code}
-use Rattle.pac_table_names.specs.Names.{value_named, has_accumulator, present_shape, listed_shapes, written_operands}
-use Rattle.pac_table_names.specs.ByName.{AreNamed, family_in, rows_named}
-use Rattle.pac_table.proofs.Lengths.{length-immediate-bytes, length-arranged}
+use Rattle.pac_table.specs.Instructions.{Instruction, row_at, row_count, code}
+use Rattle.pac_table_names.specs.Names.{value_named, present_shape, listed_shapes, written_operands}
+use Rattle.pac_table_names.specs.ByName.{AreNamed, rows_named}
 use Rattle.pac_asm_operation.specs.declared.fault.OperationFault.{OperationFault}
 use Rattle.pac_asm_operation.specs.declared.fault.OperationFault.TheVariants.{Range}
 use Rattle.pac_asm_operation.specs.declared.operand.Operand.{Operand}
-use Rattle.pac_asm_operation.specs.declared.operand.Operand.TheVariants.{Named, AlternateAf, AtName, Indexed, Memory, Value}
 use Rattle.pac_asm_operation.specs.Operands.{parts_at_commas, operands_of_parts}
-use Rattle.pac_asm_operation.specs.Operations.{Operation, is_form, are_forms, fits_as, named_value, fits, row_for}
-use Rattle.pac_asm_operation.specs.Operations.{operation_of}
-use Rattle.pac_asm_operation.specs.Operations.{row_size, operation_size}
-use Rattle.pac_asm_operation.specs.Operations.{suits_as, suits, parts_as, instruction_in_row, valued_operands}
-use Rattle.pac_asm_operation.specs.Operations.{chosen_instruction, instruction_of}
+use Rattle.pac_asm_operation.specs.Operations.{Operation, is_form, are_forms, fits, row_for, operation_of, row_size, operation_size}
+use Rattle.pac_asm_operation.specs.Operations.{suits_as, suits, instruction_in_row, valued_operands, chosen_instruction, instruction_of}
 use Rattle.pac_asm_operation.specs.Views.{seen_operand, operand_pair, seen_operands, fits_row}
 use Rattle.pac_asm_operation.specs.Kept.{with_tree, without_place, kept_operation, seen_operation, IsKept, suits_row, parts_in_row}
 use Rattle.pac_asm_operation.proofs.RowSearch.{named-search, found-at}
@@ -45,45 +33,25 @@ Place = Bor (List Token)
 -- ---- operands by their trees
 
 tree-kept : (operand : Operand Place) → with_tree (without_place operand) ≡ seen_operand operand
-tree-kept (Named name) = refl
-tree-kept AlternateAf = refl
-tree-kept (AtName name) = refl
-tree-kept (Indexed name tokens) = refl
-tree-kept (Memory tokens) = refl
-tree-kept (Value tokens) = refl
+tree-kept operand = search rules
 
 trees-kept : (operands : List (Operand Place)) → map with_tree (map without_place operands) ≡ map seen_operand operands
 trees-kept [] = refl
-trees-kept (operand ∷ operands) =
-    ap (λ (o : Operand Tree). o ∷ map with_tree (map without_place operands)) (tree-kept operand) ∙
-    ap (λ (os : List (Operand Tree)). seen_operand operand ∷ os) (trees-kept operands)
+trees-kept (operand ∷ operands) = cc (tree-kept operand, trees-kept operands)
 
 pub kept-operands : (word : List ℕ) (first second : Option (Operand Place)) →
     (seen_operation (kept_operation word first second)).operands ≡ seen_operands first second
 kept-operands word first second = trees-kept (operand_pair first second)
 
 form-seen : (some : Shape) (operand : Operand Place) → is_form some (seen_operand operand) ≡ is_form some operand
-form-seen (shape.Named other) (Named name) = refl
-form-seen _ (Named name) = refl
-form-seen shape.AlternateAf AlternateAf = refl
-form-seen _ AlternateAf = refl
-form-seen (shape.AtName other) (AtName name) = refl
-form-seen _ (AtName name) = refl
-form-seen (shape.Indexed other) (Indexed name tokens) = refl
-form-seen _ (Indexed name tokens) = refl
-form-seen (shape.AtNumber kind) (Memory tokens) = refl
-form-seen _ (Memory tokens) = refl
-form-seen (shape.Number kind) (Value tokens) = refl
-form-seen _ (Value tokens) = refl
+form-seen some operand = search rules
 
 forms-seen : (shapes : List Shape) (operands : List (Operand Place)) →
     are_forms shapes (map seen_operand operands) ≡ are_forms shapes operands
 forms-seen [] [] = refl
 forms-seen [] (operand ∷ operands) = refl
 forms-seen (some ∷ shapes) [] = refl
-forms-seen (some ∷ shapes) (operand ∷ operands) =
-    ap (λ b. b && are_forms shapes (map seen_operand operands)) (form-seen some operand) ∙
-    ap (λ b. is_form some operand && b) (forms-seen shapes operands)
+forms-seen (some ∷ shapes) (operand ∷ operands) = cc (form-seen some operand, forms-seen shapes operands)
 
 -- ---- the first row
 
@@ -96,45 +64,25 @@ first-is word rows family operands are named =
     named-search word (fits word trees) (λ row is. (and_parts (is_some (value_named row.operands.mnemonic word)) _ is).0) ∙
     ap (find (λ n. fits word trees (row_at n))) (sym are) ∙
     find-same (λ n. fits word trees (row_at n)) (fits_row family operands) rows
-    (λ k d below.
-    let n = get_or rows k d in
-    let row = row_at n in
-    ap (λ (o : Option ℕ). is_some o && fits_as (unwrap_or o 0) trees row) (named k d below) ∙
-    forms-seen (written_operands row.operands (family_in row.operands.mnemonic family)) operands))
+    (λ k d below. grind (arith, forms-seen)))
 
 -- ---- too many operands
 
 present-long : {A : Type 0} (b : Shape) (y z : Operand A) (zs : List (Operand A)) → are_forms (present_shape b) (y ∷ z ∷ zs) ≡ false
-present-long shape.Absent y z zs = refl
-present-long b y z zs = and-false (is_form b y)
+present-long b y z zs = search rules
 
 listed-long : {A : Type 0} (a b : Shape) (x y z : Operand A) (zs : List (Operand A)) →
     are_forms (listed_shapes a b) (x ∷ y ∷ z ∷ zs) ≡ false
-listed-long shape.Absent b x y z zs = refl
-listed-long a b x y z zs =
-    ap (λ test. is_form a x && test) (present-long b y z zs) ∙ and-false (is_form a x)
+listed-long a b x y z zs = grind (arith, and-false, present-long)
 
 written-long : {A : Type 0} (form : Operands) (value : ℕ) (x y z : Operand A) (zs : List (Operand A)) →
     are_forms (written_operands form value) (x ∷ y ∷ z ∷ zs) ≡ false
-written-long form value x y z zs =
-    elim (has_accumulator form.mnemonic value) as
-    (λ b. are_forms (if b then listed_shapes (shape.Named name.A) form.first else listed_shapes form.first form.second) (x ∷ y ∷ z ∷ zs)
-    ≡ false) [
-      | true ↦ listed-long (shape.Named name.A) form.first x y z zs
-      | false ↦ listed-long form.first form.second x y z zs
-    ]
+written-long form value x y z zs = grind (arith, listed-long)
 
 no-row : (word : List ℕ) (operands : List (Operand Tree)) → 2 < length operands → row_for word operands ≡ None
 unfolding row_for
-no-row word [] more = absurd (omega (arith, more))
-no-row word (x ∷ []) more = absurd (omega (arith, more))
-no-row word (x ∷ y ∷ []) more = absurd (omega (arith, more))
-no-row word (x ∷ y ∷ z ∷ zs) more =
-    let fails : (row : Row) → fits word (x ∷ y ∷ z ∷ zs) row ≡ false =
-    λ row.
-    ap (λ b. is_some (value_named row.operands.mnemonic word) && b) (written-long row.operands (named_value word row) x y z zs) ∙
-    and-false (is_some (value_named row.operands.mnemonic word)) in
-    position-all-fail (fits word (x ∷ y ∷ z ∷ zs)) table (λ k row below. fails (get_or table k row))
+no-row word (x ∷ y ∷ z ∷ zs) more = grind (arith, and-false, position-all-fail, written-long)
+no-row word operands more = absurd (omega (arith, more))
 
 abbrev made : List ℕ → List (Operand Tree) → Option ℕ → Option Operation
 made word operands row = if is_some row then Some (record { word = word; operands = operands }) else None
@@ -144,9 +92,7 @@ with_operands word operands = option_and_then (λ all. made word all (row_for wo
 
 pub too-many : (word : List ℕ) (operands : Option (List (Operand Tree))) → IfSome operands (λ all. 2 < length all) →
     with_operands word operands ≡ None
-too-many word None more = refl
-too-many word (Some all) more =
-    ap (λ (row : Option ℕ). if is_some row then Some (record { word = word; operands = all }) else None) (no-row word all more)
+too-many word operands more = grind (arith, no-row)
 
 -- ---- the operation that is read
 
@@ -165,8 +111,7 @@ pub read-unfit : (word rows : List ℕ) (tokens : List Lexeme) (family : ℕ) (f
     operands_of_parts (parts_at_commas tokens) ≡ Some (seen_operands first second) → rows ≡ rows_named word → AreNamed word family rows →
     None ≡ find (fits_row family (operand_pair first second)) rows → operation_of word tokens ≡ None
 read-unfit word rows tokens family first second operands are named none =
-    read-with word tokens (seen_operands first second) operands ∙
-    ap (made word (seen_operands first second)) (sym (none ∙ first-is word rows family (operand_pair first second) are named))
+    cc (read-with word tokens (seen_operands first second) operands, none, first-is word rows family (operand_pair first second) are named)
 
 pub read-fit : (word rows : List ℕ) (tokens : List Lexeme) (family n : ℕ) (first second : Option (Operand Place)) →
     operands_of_parts (parts_at_commas tokens) ≡ Some (seen_operands first second) → rows ≡ rows_named word → AreNamed word family rows →
@@ -182,25 +127,16 @@ pub size-kept : (word rows : List ℕ) (family n size : ℕ) (first second : Opt
     AreNamed word family rows → Some n ≡ find (fits_row family (operand_pair first second)) rows → size ≡ row_size (row_at n) →
     size ≡ operation_size (seen_operation (kept_operation word first second))
 unfolding operation_size
-size-kept word rows family n size first second are named found is =
-    is ∙ ap (λ (row : Option ℕ). row_size (row_at (unwrap_or row 0))) (found
-    ∙ first-is word rows family (operand_pair first second) are named) ∙
-    ap (λ (os : List (Operand Tree)). row_size (row_at (unwrap_or (row_for word os) 0))) (sym (kept-operands word first second))
+size-kept word rows family n size first second are named found is = grind (arith, first-is, kept-operands)
 
 -- ---- the instruction
-
-abbrev placed_instruction : List ℕ → ℕ → ℕ → Result (List (Operand ℤ)) OperationFault → Result Instruction OperationFault
-placed_instruction word size here operands = operands >>= chosen_instruction word size (here + size)
 
 pub instruction-fault : (names : List ℕ → Option ℤ) (here : ℕ) (word : List ℕ) (first second : Option (Operand Place))
     (fault : OperationFault) →
     Err fault ≡ valued_operands names here (seen_operands first second) →
     Err fault ≡ instruction_of names here (seen_operation (kept_operation word first second))
 unfolding instruction_of
-instruction-fault names here word first second fault is =
-    let operation = seen_operation (kept_operation word first second) in
-    ap (placed_instruction word (operation_size operation) here)
-    (is ∙ ap (valued_operands names here) (sym (kept-operands word first second)))
+instruction-fault names here word first second fault is = search rules
 
 chosen-is : (word rows : List ℕ) (family size next : ℕ) (operands : List (Operand ℤ)) → rows ≡ rows_named word → AreNamed word family rows →
     ok_or (option_map (parts_in_row family next operands) (find (suits_row family size next operands) rows)) Range
@@ -215,10 +151,7 @@ chosen-is word rows family size next operands are named =
     (λ k d below.
     ap (λ (o : Option ℕ). is_some o && suits_as (unwrap_or o 0) size next operands (row_at (get_or rows k d))) (named k d below))) ∙
     ap (λ (o : Option Instruction). ok_or o Range)
-    (find-map-same (suits_row family size next operands) (instruction_in_row word next operands) (parts_in_row family next operands) rows
-    (λ k d below.
-    let n = get_or rows k d in
-    ap (λ (o : Option ℕ). instruction_at (parts_as (unwrap_or o 0) next operands (row_at n)) n) (named k d below))))
+    (grind (arith, find-map-same)))
   where
     instruction_at : Instruction → ℕ → Instruction
     instruction_at parts n = record parts { row = n }
@@ -230,26 +163,12 @@ pub instruction-placed : (names : List ℕ → Option ℤ) (here : ℕ) (word ro
     ok_or (option_map (parts_in_row family (here + size) operands) (find (suits_row family size (here + size) operands) rows)) Range ≡
     instruction_of names here (seen_operation (kept_operation word first second))
 unfolding instruction_of
-instruction-placed names here word rows family size first second operands is valued =
-    let operation = seen_operation (kept_operation word first second) in
-    chosen-is word rows family size (here + size) operands is.are_rows is.are_named ∙
-    ap (λ n. chosen_instruction word n (here + n) operands) is.is_size ∙
-    ap (placed_instruction word (operation_size operation) here) (valued
-    ∙ ap (valued_operands names here) (sym (kept-operands word first second)))
+instruction-placed names here word rows family size first second operands is valued = grind (arith, chosen-is, kept-operands)
 
 -- ---- its size
 
-same-length : (page : Page) (a b : ℕ) (xs ys : List ℕ) → length xs ≡ length ys →
-    length (code_bytes page a xs) ≡ length (code_bytes page b ys)
-same-length page a b xs ys are =
-    length-arranged (is_displacement_first page) (page_prefix page) xs a ∙ ap (λ n. length (page_prefix page) + n + 1) are ∙
-    sym (length-arranged (is_displacement_first page) (page_prefix page) ys b)
-
 code-length : (i : Instruction) → length (code i) ≡ row_size (row_at i.row)
-code-length i =
-    let some = (row_at i.row).pattern.immediate in
-    same-length (row_at i.row).pattern.page (opcode_of i) 0 (immediate_bytes some i.word i.disp) (immediate_bytes some 0 (pos 0))
-    (length-immediate-bytes some i.word i.disp ∙ sym (length-immediate-bytes some 0 (pos 0)))
+code-length i = search rules
 
 sized : (family size next : ℕ) (operands : List (Operand ℤ)) (rows : List ℕ) (found : Option ℕ) →
     find (suits_row family size next operands) rows ≡ found →
@@ -257,17 +176,14 @@ sized : (family size next : ℕ) (operands : List (Operand ℤ)) (rows : List �
 sized family size next operands rows None is = tt
 sized family size next operands rows (Some n) is =
     let at = found-at (suits_row family size next operands) (λ _. Unit {0}) rows n is (λ k d below. tt) in
-    let value = family_in (row_at n).operands.mnemonic family in
     let held = and_parts _ _ at.passes in
-    let take = and_parts _ _ held.0 in
-    let fit = and_parts (row_size (row_at n) == size) _ take.0 in
+    let fit = and_parts (row_size (row_at n) == size) _ (and_parts _ _ held.0).0 in
     code-length (parts_in_row family next operands n) ∙ eqb-true (row_size (row_at n)) size fit.0
 
 pub instruction-sized : (family size next : ℕ) (operands : List (Operand ℤ)) (rows : List ℕ) →
     IfOk (ok_or (option_map (parts_in_row family next operands) (find (suits_row family size next operands) rows)) Range)
     (λ i. length (code i) ≡ size)
-instruction-sized family size next operands rows =
-    sized family size next operands rows (find (suits_row family size next operands) rows) refl
+instruction-sized family size next operands rows = grind (arith, sized)
 
 -- ---- what was valued, and the row found
 

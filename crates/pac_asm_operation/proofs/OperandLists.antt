@@ -1,6 +1,6 @@
 -- The operands of a list of parts.
-use Rattle.std.proofs.Common.{ℕ, ◌+◌, ◌<◌, List, [], ◌∷◌, length, arith}
-use Rattle.std.specs.Prelude.{Option, Some, None, IfSome, option_map}
+use Rattle.std.proofs.Common.{ℕ, ◌+◌, ◌<◌, List, [], ◌∷◌, length, arith, rules}
+use Rattle.std.specs.Prelude.{Option, Some, IfSome, option_map}
 use Rattle.std.specs.Option.{option_and_then}
 use Rattle.std.specs.List.{slice_split}
 use Rattle.std.proofs.lemmas.List.Splits.{length-slice_split}
@@ -18,23 +18,16 @@ operand_before first operands = option_and_then (λ operand. option_map (λ more
 -- one operand more
 pub more-before : (n : ℕ) (first : Option (Operand Tree)) (operands : Option (List (Operand Tree))) → AreMore n operands →
     AreMore (n + 1) (operand_before first operands)
-more-before n None None more = tt
-more-before n None (Some all) more = tt
-more-before n (Some first) None more = tt
-more-before n (Some first) (Some all) more = omega (arith, more)
+more-before n first operands more = search rules
 
 some-part : (parts : List (List Lexeme)) → 0 < length parts → AreMore 0 (operands_of_parts parts)
 some-part [] some = absurd (omega (arith, some))
 some-part (part ∷ parts) some = at-least (operand_of part) (operands_of_parts parts)
   where
     at-least : (first : Option (Operand Tree)) (operands : Option (List (Operand Tree))) → AreMore 0 (operand_before first operands)
-    at-least None None = tt
-    at-least None (Some all) = tt
-    at-least (Some first) None = tt
     at-least (Some first) (Some all) = omega arith
+    at-least first operands = tt
 
 -- after a comma there is a part at least
 pub split-has-part : (tokens : List Lexeme) → AreMore 0 (operands_of_parts (slice_split is_comma tokens))
-split-has-part tokens =
-    let count = length-slice_split is_comma tokens in
-    some-part (slice_split is_comma tokens) (omega (arith, count))
+split-has-part tokens = grind (arith, length-slice_split, some-part)

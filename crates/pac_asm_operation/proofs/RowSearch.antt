@@ -1,9 +1,9 @@
 -- The rows with a name, asked one by one, against the search of the whole table.
-use Rattle.std.proofs.Common.{◌≡◌, ℕ, suc, ◌+◌, ◌<◌, Bool, true, false, if◌then◌else◌, cond, []}
-use Rattle.std.proofs.Common.{List, ◌∷◌, length, drop, get_or, find, refl, sym, ◌∙◌, ap, subst, arith, inl, inr, add-one}
+use Rattle.std.proofs.lemmas.Grind.{common_steps}
+use Rattle.std.proofs.Common.{◌≡◌, ℕ, suc, ◌+◌, ◌<◌, Bool, true, if◌then◌else◌, []}
+use Rattle.std.proofs.Common.{List, ◌∷◌, length, drop, get_or, find, refl, sym, ◌∙◌, ap, arith, inl, inr, rules}
 use Rattle.std.specs.Prelude.{Option, Some, None, is_some, option_map, position}
 use Rattle.std.specs.List.{All}
-use Rattle.std.proofs.Math.Seq.{drop-cons}
 use Rattle.std.proofs.lemmas.List.{get_or_default}
 use Rattle.std.proofs.lemmas.Bool.{cases_Bool, cond-true, cond-false}
 use Rattle.std.proofs.lemmas.List.Elements.{All-head, All-tail}
@@ -13,8 +13,6 @@ use Rattle.pac_table.specs.Table.{table}
 use Rattle.pac_table.specs.Instructions.{row_at}
 use Rattle.pac_table_names.specs.Names.{value_named}
 use Rattle.pac_table_names.specs.ByName.{rows_named_from, rows_named}
-
--- ---- a search by places
 
 -- ---- the rows with a name
 
@@ -28,8 +26,7 @@ next-rows n row rows from k d below =
     ap row_at place ∙ from (suc k) d (omega (arith, below))
 
 map-twice : (n : ℕ) (o : Option ℕ) → option_map (λ k. n + 1 + k) o ≡ option_map (λ k. n + k) (option_map (λ k. 1 + k) o)
-map-twice n None = refl
-map-twice n (Some k) = let same : n + 1 + k ≡ n + (1 + k) = omega arith in ap Some same
+map-twice n o = search rules
 
 search-from : (word : List ℕ) (p : Row → Bool) (n : ℕ) (rows : List Row) →
     ((row : Row) → p row ≡ true → is_some (value_named row.operands.mnemonic word) ≡ true) → RowsFrom n rows →
@@ -39,34 +36,10 @@ search-from word p n (row ∷ rows) named from =
     let rest = search-from word p (n + 1) rows named (next-rows n row rows from) in
     let here : row_at n ≡ row = ap row_at (let same : n ≡ n + 0 = omega arith in same) ∙ from 0 row (omega arith) in
     let test : ℕ → Bool = λ m. p (row_at m) in
-    let right = ap (option_map (λ k. n + k)) (position-cons p row rows) in
-    elim (cases_Bool (p row)) [
-      | inl passes ↦
-          let start : n + 0 ≡ n = omega arith in
-          ap (find test)
-          (cond-true (is_some (value_named row.operands.mnemonic word)) (n ∷ rows_named_from word (n + 1) rows)
-          (rows_named_from word (n + 1) rows)
-          (named row passes)) ∙
-          cond-true (p (row_at n)) (Some n) (find test (rows_named_from word (n + 1) rows)) (ap p here ∙ passes) ∙
-          sym (
-          right ∙ ap (option_map (λ k. n + k)) (cond-true (p row) (Some 0) (option_map (λ k. 1 + k) (position p rows)) passes) ∙
-          ap Some start)
-      | inr fails ↦
-          let skipped : find test (rows_named_from word n (row ∷ rows)) ≡ find test (rows_named_from word (n + 1) rows) =
-          elim (is_some (value_named row.operands.mnemonic word)) as
-          (λ b. find test (if b then n ∷ rows_named_from word (n + 1) rows else rows_named_from word (n + 1) rows) ≡
-          find test (rows_named_from word (n + 1) rows)) [
-            | true ↦ cond-false (p (row_at n)) (Some n) (find test (rows_named_from word (n + 1) rows)) (ap p here ∙ fails)
-            | false ↦ refl
-          ] in
-          skipped ∙ rest ∙ map-twice n (position p rows) ∙
-          sym (
-          right ∙ ap (option_map (λ k. n + k)) (cond-false (p row) (Some 0) (option_map (λ k. 1 + k) (position p rows)) fails))
-    ]
+    let right = ap (option_map (λ k. n + k)) (position-cons p row rows) in grind (arith, cases_Bool, cond-false, cond-true, map-twice)
 
 same-option : (o : Option ℕ) → option_map (λ k. 0 + k) o ≡ o
-same-option None = refl
-same-option (Some k) = let same : 0 + k ≡ k = omega arith in ap Some same
+same-option o = search rules
 
 table-rows : RowsFrom 0 table
 unfolding row_at
@@ -88,42 +61,19 @@ pub found-at : (p : ℕ → Bool) (P : ℕ → Type 0) (xs : List ℕ) (n : ℕ)
 found-at p P [] n found all = absurd (cc)
 found-at p P (x ∷ xs) n found all =
     elim (cases_Bool (p x)) [
-      | inl passes ↦
-          let here : Some x ≡ Some n = sym (cond-true (p x) (Some x) (find p xs) passes) ∙ found in
-          let same : x ≡ n = cc here in
-          subst (λ m. FoundAt p P m) same (record { passes = passes; holds = All-head P x xs all })
+      | inl passes ↦ grind (arith, All-head, cond-true)
       | inr fails ↦
           found-at p P xs n (sym (cond-false (p x) (Some x) (find p xs) fails) ∙ found) (All-tail P x xs all)
     ]
 
 -- ---- one step of such a search
 
-at-place : (p : ℕ → Bool) (xs : List ℕ) (k : ℕ) → k < length xs →
-    find p (drop k xs) ≡ cond (p (get_or xs k 0)) (Some (get_or xs k 0)) (find p (drop (k + 1) xs))
-at-place p xs k below =
-    ap (find p) (drop-cons xs k 0 below) ∙
-    ap (λ n. cond (p (get_or xs k 0)) (Some (get_or xs k 0)) (find p (drop n xs))) (sym (add-one k))
-
 pub found-placed : {Y : Type 0} (p : ℕ → Bool) (f : ℕ → Y) (xs : List ℕ) (k : ℕ) (y : Y) → k < length xs →
     find p (drop k xs) ≡ find p xs → Some y ≡ (if p (get_or xs k 0) then Some (f (get_or xs k 0)) else None) →
     Some y ≡ option_map f (find p xs)
-found-placed p f xs k y below so_far is =
-    elim (cases_Bool (p (get_or xs k 0))) [
-      | inl passes ↦
-          is ∙ cond-true (p (get_or xs k 0)) (Some (f (get_or xs k 0))) None passes ∙
-          ap (option_map f)
-          (sym (at-place p xs k below ∙ cond-true (p (get_or xs k 0)) (Some (get_or xs k 0)) (find p (drop (k + 1) xs)) passes) ∙ so_far)
-      | inr fails ↦ let wrong : Some y ≡ None = is ∙ cond-false (p (get_or xs k 0)) (Some (f (get_or xs k 0))) None fails in absurd (cc)
-    ]
+found-placed p f xs k y below so_far is = grind (arith, common_steps)
 
 pub more-placed : {Y : Type 0} (p : ℕ → Bool) (f : ℕ → Y) (xs : List ℕ) (k : ℕ) → k < length xs →
     find p (drop k xs) ≡ find p xs → None ≡ (if p (get_or xs k 0) then Some (f (get_or xs k 0)) else None) →
     find p (drop (k + 1) xs) ≡ find p xs
-more-placed p f xs k below so_far is =
-    elim (cases_Bool (p (get_or xs k 0))) [
-      | inl passes ↦
-          let wrong : None ≡ Some (f (get_or xs k 0)) = is ∙ cond-true (p (get_or xs k 0)) (Some (f (get_or xs k 0))) None passes in
-          absurd (cc)
-      | inr fails ↦
-          sym (at-place p xs k below ∙ cond-false (p (get_or xs k 0)) (Some (get_or xs k 0)) (find p (drop (k + 1) xs)) fails) ∙ so_far
-    ]
+more-placed p f xs k below so_far is = grind (arith, common_steps)

@@ -1,5 +1,5 @@
 -- When a frame's blank comes, each frame so far has had its samples.
-use Rattle.std.proofs.Common.{◌≡◌, ℕ, suc, ◌*◌, ◌/◌, ◌%◌, true, List, [], ◌∷◌, ◌++◌, sym, subst, ◌∙◌, arith}
+use Rattle.std.proofs.Common.{◌≡◌, ℕ, suc, ◌*◌, ◌/◌, ◌%◌, true, List, [], ◌∷◌, ◌++◌, subst, ◌∙◌, arith}
 use Rattle.pac_cpu.specs.PlacedItems.{Item}
 use Rattle.pac_map.specs.RomParts.{Parts}
 use Rattle.pac_map.specs.Entry.{Entry, Blank}
@@ -20,8 +20,7 @@ AreCounted (Blank frame ∷ older) = (sample_count older ≡ frame_samples * fra
 AreCounted (entry ∷ older) = AreCounted older
 
 quiet-counted : (entry : Entry) (entries : List Entry) → is_quiet entry ≡ true → AreCounted entries → AreCounted (entry ∷ entries)
-quiet-counted (Blank frame) entries h counted = not-both (sym h)
-quiet-counted entry entries h counted = counted
+quiet-counted entry entries h counted = grind (arith, not-both)
 
 counted-at : (later older : List Entry) (frame : ℕ) → AreCounted (later ++ Blank frame ∷ older) → sample_count older ≡ frame_samples * frame
 counted-at [] older frame counted = counted.0
@@ -57,10 +56,7 @@ module _ (set : Parts) (items : List Item) (start : BoardView) where
       let second = lined-holds ask Holds moment sounded
       (λ _. record { so_far = first.so_far; blanks = first.blanks }) (λ _. first) in
       blanked-holds ask Holds moment seen
-      (λ ends.
-      let counted : AreCounted (Blank (moment / frame_ticks) ∷ seen.board) =
-      (whole-frames moment (sample_count seen.board) ends second.so_far, second.blanks) in
-      (record { so_far = second.so_far; blanks = counted }, record { so_far = second.so_far; blanks = counted }))
+      (λ ends. grind (arith, whole-frames))
       (λ none. second)
 
 pub frames-sampled : FramesHaveTheirSamples

@@ -1,18 +1,16 @@
 -- What a host does to one account of the board is what it does to the other, seen through the view.
-use Rattle.std.proofs.Common.{◌≡◌, ℕ, zero, suc, List, [], ◌∷◌, ◌++◌, map, slice_index_or, refl, sym, ap, ◌∙◌}
-use Rattle.pac_cpu.specs.Power.{reset_regs}
-use Rattle.pac_map.specs.Entry.{Entry, Reset, Hold}
-use Rattle.pac_map.specs.View.{held_with, held_without}
+use Rattle.std.proofs.Common.{rules, arith, ◌≡◌, ℕ, List, [], ◌∷◌, ◌++◌, map, slice_index_or, refl, sym, ap, ◌∙◌}
+use Rattle.std.proofs.lemmas.Grind.{common_steps}
+use Rattle.pac_map.specs.Entry.{Entry}
 use Rattle.pac_cpu.proofs.CodeLengths.{length-code}
 use Rattle.pac_cpu.proofs.RoundTrip.{decodes-prefix}
 use Rattle.pac_board_model.specs.CarriedProofs.{Carries}
 use Rattle.pac_board_model.specs.Carried.{moment_view, next_view}
 use Rattle.pac_board_model.specs.History.{board_after_entries}
-use Rattle.pac_board_model.specs.Host.{Act, StepOn, ResetBoard, HoldToo, LetGo, Keep, GoBack, Account, Host, with_step, put_now}
+use Rattle.pac_board_model.specs.Host.{Act, Account, Host, with_step, put_now}
 use Rattle.pac_board_model.specs.Host.{after_act, after_acts, host_view, account_by_history, account_by_view}
 use Rattle.pac_board_model.specs.Laws.{StepsAgree, HostsAgree}
-use Rattle.pac_board_model.specs.Step.{Moment, Next, Goes, Ends, step}
-use Rattle.pac_board_model.specs.Trace.{by_history, by_view}
+use Rattle.pac_board_model.specs.Step.{Moment, Next}
 use Rattle.pac_board_model.proofs.Carried.{step-carried, play-step-carried}
 use Rattle.pac_board_model.proofs.Items.{view-carries}
 use Rattle.pac_board_model.proofs.Told.{view-tells}
@@ -24,18 +22,14 @@ module _ {From To : Type 0} (view : From → To) (account : Account From) (other
 
   step-kept : (host : Host From) (next : Next From)
       → host_view view (with_step host next) ≡ with_step (host_view view host) (next_view view next)
-  step-kept host (Goes now outputs kind) = refl
-  step-kept host (Ends stop) = refl
+  step-kept host next = search rules
 
   kept-more : (kept : List (Moment From)) (now : Moment From) → map seen (kept ++ now ∷ []) ≡ map seen kept ++ seen now ∷ []
-  kept-more [] now = refl
-  kept-more (first ∷ kept) now = ap (λ more. seen first ∷ more) (kept-more kept now)
+  kept-more kept now = grind (arith, common_steps)
 
   kept-at : (kept : List (Moment From)) (number : ℕ) (now : Moment From)
       → seen (slice_index_or kept number now) ≡ slice_index_or (map seen kept) number (seen now)
-  kept-at [] number now = refl
-  kept-at (first ∷ kept) zero now = refl
-  kept-at (first ∷ kept) (suc number) now = kept-at kept number now
+  kept-at kept number now = grind (arith, common_steps)
 
   put-carried : (entry : Entry) (now : Moment From) → seen (put_now account.ask entry now) ≡ put_now other.ask entry (seen now)
   put-carried entry now =
@@ -45,20 +39,7 @@ module _ {From To : Type 0} (view : From → To) (account : Account From) (other
   moved host now = record { now = now; kept = map seen host.kept; outputs = host.outputs }
 
   act-carried : (host : Host From) (act : Act) → host_view view (after_act account host act) ≡ after_act other (host_view view host) act
-  act-carried host StepOn =
-      step-kept host (step account.ask host.now)
-      ∙ ap (with_step (host_view view host)) (step-carried view account.ask other.ask carries host.now)
-  act-carried host ResetBoard =
-      ap (λ (now : Moment To). moved host (record now { regs = reset_regs host.now.regs })) (put-carried Reset host.now)
-  act-carried host (HoldToo mask) =
-      ap (moved host) (put-carried (Hold (held_with (account.held host.now.board) mask)) host.now)
-      ∙ ap (λ held. moved host (put_now other.ask (Hold (held_with held mask)) (seen host.now))) (same_held host.now.board)
-  act-carried host (LetGo mask) =
-      ap (moved host) (put-carried (Hold (held_without (account.held host.now.board) mask)) host.now)
-      ∙ ap (λ held. moved host (put_now other.ask (Hold (held_without held mask)) (seen host.now))) (same_held host.now.board)
-  act-carried host Keep =
-      ap (λ kept. record { now = seen host.now; kept = kept; outputs = host.outputs }) (kept-more host.kept host.now)
-  act-carried host (GoBack number) = ap (moved host) (kept-at host.kept number host.now)
+  act-carried host act = grind (arith, kept-at, kept-more, put-carried, step-carried, step-kept)
 
   pub acts-carried : (acts : List Act) (host : Host From)
       → host_view view (after_acts account host acts) ≡ after_acts other (host_view view host) acts
@@ -67,14 +48,7 @@ module _ {From To : Type 0} (view : From → To) (account : Account From) (other
       acts-carried acts (after_act account host act) ∙ ap (λ h. after_acts other h acts) (act-carried host act)
 
 pub steps-agree : StepsAgree
-steps-agree set items start now whole lie fit =
-    let view = board_after_entries set start in
-    let ask = by_history set items start in
-    let carries = view-carries decodes-prefix length-code set items start whole lie fit in
-    record {
-      alone = step-carried view ask (by_view set) carries now;
-      with_script = λ held. play-step-carried view ask (by_view set) carries held now;
-    }
+steps-agree set items start now whole lie fit = search (rules, decodes-prefix, length-code, play-step-carried, step-carried, view-carries)
 
 pub hosts-agree : HostsAgree
 hosts-agree set items start host acts whole lie fit =

@@ -1,12 +1,9 @@
 -- What a host's acts keep: a fact of the time and of the board, which no write, output, acceptance, reset or held input changes, and
 -- which the events of each moment carry on to the next. Moments that are kept have it, so going back to one has it too.
-use Rattle.std.proofs.Common.{◌≡◌, ℕ, zero, suc, ◌+◌, ◌<◌, ◌≤◌, true, List, [], ◌∷◌, ◌++◌, slice_index_or, refl, sym, subst, ◌∙◌, arith}
-use Rattle.pac_map.specs.Entry.{Entry, Reset, Hold}
-use Rattle.pac_map.specs.View.{held_with, held_without}
+use Rattle.std.proofs.Common.{rules, ◌≡◌, ℕ, zero, suc, ◌+◌, ◌<◌, ◌≤◌, true, List, [], ◌∷◌, ◌++◌, slice_index_or, sym, subst, ◌∙◌, arith}
+use Rattle.pac_map.specs.Entry.{Entry}
 use Rattle.pac_picture.specs.Tiles.{height}
-use Rattle.pac_board_model.specs.Host.{Act, StepOn, ResetBoard, HoldToo, LetGo, Keep, GoBack, Account, Host, with_step, after_act}
-use Rattle.pac_board_model.specs.Host.{after_acts}
-use Rattle.pac_board_model.specs.Host.{host_at, account_by_history}
+use Rattle.pac_board_model.specs.Host.{Act, Account, Host, with_step, after_act, after_acts, host_at, account_by_history}
 use Rattle.pac_board_model.specs.Laws.{HostsAreLineExact, line_moment}
 use Rattle.pac_board_model.specs.Step.{Moment, StepProgress, at_moment, step}
 use Rattle.pac_board_model.proofs.LinesComposed.{IsTold, compositions, nothing-told, quiet-kept, moment-kept, before-frame, shown-composed}
@@ -48,14 +45,7 @@ module _ {Board : Type 0} (account : Account Board) (Told : ℕ → Board → Ty
       (λ stop e. subst (λ next. HostTold (with_step host next)) (sym e) told)
 
   act-told : (host : Host Board) (act : Act) → HostTold host → HostTold (after_act account host act)
-  act-told host StepOn told = step-told host told
-  act-told host ResetBoard told = (quiet host.now.time host.now.board Reset refl told.0, told.1)
-  act-told host (HoldToo mask) told =
-      (quiet host.now.time host.now.board (Hold (held_with (account.held host.now.board) mask)) refl told.0, told.1)
-  act-told host (LetGo mask) told =
-      (quiet host.now.time host.now.board (Hold (held_without (account.held host.now.board) mask)) refl told.0, told.1)
-  act-told host Keep told = (told.0, more-told host.kept host.now told.1 told.0)
-  act-told host (GoBack number) told = (kept-told host.kept number host.now told.1 told.0, told.1)
+  act-told host act told = search (rules, kept-told, more-told, step-told)
 
   pub acts-told : (acts : List Act) (host : Host Board) → HostTold host → HostTold (after_acts account host acts)
   acts-told [] host told = told

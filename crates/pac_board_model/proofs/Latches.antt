@@ -1,9 +1,9 @@
 -- The latch that a history leaves in the view is the one that the history tells.
-use Rattle.std.proofs.Common.{◌≡◌, ◌≢◌, ℕ, zero, suc, ◌+◌, ◌≤◌, ◌==◌, min, nat_le, Bool, true, false, cond, not, ◌&&◌, ◌||◌}
-use Rattle.std.proofs.Common.{List, [], ◌∷◌, replicate, slice_index_or, Option, Some, None, unwrap_or, refl, ap, ◌∙◌, arith}
+use Rattle.std.proofs.lemmas.Grind.{common_steps}
+use Rattle.std.proofs.Common.{◌≡◌, ℕ, suc, ◌+◌, ◌≤◌, ◌==◌, min, Bool, true, false, cond, ◌||◌}
+use Rattle.std.proofs.Common.{List, [], ◌∷◌, replicate, slice_index_or, Option, Some, None, unwrap_or, refl, ap, ◌∙◌, arith, rules}
 use Rattle.std.proofs.lemmas.Bool.Decides.{nat_tests}
-use Rattle.pac_map.specs.Latched.{latch_bits, latch_place, is_latch_bit_set, withdraws, watchdog_limit, latched_after_bit}
-use Rattle.pac_map.specs.Latched.{interrupt_request}
+use Rattle.pac_map.specs.Latched.{latch_place, is_latch_bit_set, watchdog_limit, latched_after_bit, interrupt_request}
 use Rattle.pac_map.specs.Latched as latch
 use Rattle.pac_map.proofs.LatchBits.{is_set-written, is_set-others}
 use Rattle.pac_map.specs.declared.bus_table.BusPlace.{BusPlace}
@@ -15,9 +15,7 @@ use Rattle.pac_board_model.specs.Queries.{lowest, is_latch, last_bit, bit_at, la
 use Rattle.pac_board_model.specs.Queries.{blanks_since, is_reset_due}
 
 clear-at : (count place : ℕ) → slice_index_or (replicate count false) place false ≡ false
-clear-at zero place = refl
-clear-at (suc count) zero = refl
-clear-at (suc count) (suc place) = clear-at count place
+clear-at count place = grind (arith, common_steps)
 
 bit-written : (view : View) (to : BusPlace) (byte place : ℕ)
     → is_latch_bit_set (view_after_write view to byte).latched place
@@ -27,21 +25,15 @@ bit-written view (Latch other) byte place = choose (latch_place other == latch_p
     choose : (b : Bool) → (latch_place other == latch_place place) ≡ b
         → is_latch_bit_set (latched_after_bit view.latched other (lowest byte)) place
         ≡ cond b (lowest byte) (is_latch_bit_set view.latched place)
-    choose true e =
-        let same : latch_place place ≡ latch_place other = grind (arith, nat_tests) in
-        ap (λ at. slice_index_or (latch_bits (latched_after_bit view.latched other (lowest byte)).bits) at false) same
-        ∙ is_set-written view.latched other (lowest byte)
-    choose false e =
-        let apart : latch_place place ≢ latch_place other = grind (arith, nat_tests) in
-        is_set-others view.latched other (lowest byte) place apart
+    choose true e = grind (arith, is_set-written, nat_tests)
+    choose false e = grind (arith, is_set-others, nat_tests)
 bit-written view Kick byte place = refl
 bit-written view _ byte place = refl
 
 -- what an entry decides comes before what older ones do
 decided : {A : Type 0} (here : Bool) (value : A) (older : Option A) (first : A)
     → cond here value (unwrap_or older first) ≡ unwrap_or (cond here (Some value) older) first
-decided true value older first = refl
-decided false value older first = refl
+decided here value older first = search rules
 
 pub bit-viewed : (start : View) (entries : List Entry) (place : ℕ)
     → is_latch_bit_set (view_after_entries start entries).latched place ≡ bit_at start entries place
@@ -54,9 +46,7 @@ bit-viewed start (Write to byte ∷ older) place =
 bit-viewed start (entry ∷ older) place = bit-viewed start older place
 
 vector-written : (view : View) (to : BusPlace) (byte : ℕ) → (view_after_write view to byte).latched.vector ≡ view.latched.vector
-vector-written view (Latch place) byte = refl
-vector-written view Kick byte = refl
-vector-written view _ byte = refl
+vector-written view to byte = search rules
 
 pub vector-viewed : (start : View) (entries : List Entry) → (view_after_entries start entries).latched.vector
     ≡ unwrap_or (last_vector entries) start.latched.vector
@@ -65,27 +55,17 @@ vector-viewed start (Vector byte ∷ older) = refl
 vector-viewed start (Write to byte ∷ older) = vector-written (view_after_entries start older) to byte ∙ vector-viewed start older
 vector-viewed start (entry ∷ older) = vector-viewed start older
 
-both-nor : (requested taken : Bool) → (requested && not taken) ≡ cond taken false requested
-both-nor true true = refl
-both-nor true false = refl
-both-nor false true = refl
-both-nor false false = refl
-
 request-written : (view : View) (to : BusPlace) (byte : ℕ)
     → (view_after_write view to byte).latched.request ≡ cond (takes_back to byte) false view.latched.request
-request-written view (Latch place) byte = both-nor view.latched.request (withdraws place (lowest byte))
-request-written view Kick byte = refl
-request-written view _ byte = refl
+request-written view to byte = search rules
 
 pub requested-viewed : (start : View) (entries : List Entry) →
     (view_after_entries start entries).latched.request ≡ is_requested start entries
 requested-viewed start [] = refl
 requested-viewed start (Accept ∷ older) = refl
 requested-viewed start (Reset ∷ older) = refl
-requested-viewed start (Write to byte ∷ older) =
-    request-written (view_after_entries start older) to byte ∙ ap (cond (takes_back to byte) false) (requested-viewed start older)
-requested-viewed start (Blank frame ∷ older) =
-    λ i. requested-viewed start older i || bit-viewed start older 0 i
+requested-viewed start (Write to byte ∷ older) = cc (request-written (view_after_entries start older) to byte, requested-viewed start older)
+requested-viewed start (Blank frame ∷ older) = λ i. requested-viewed start older i || bit-viewed start older 0 i
 requested-viewed start (entry ∷ older) = requested-viewed start older
 
 pub request-viewed : (start : View) (entries : List Entry) →
@@ -110,8 +90,4 @@ count-viewed start (entry ∷ older) low = count-viewed start older low
 
 pub due-viewed : (start : View) (entries : List Entry) → start.latched.count ≤ watchdog_limit
     → latch.is_watchdog_due (view_after_entries start entries).latched ≡ is_reset_due start entries
-due-viewed start entries low =
-    ap (λ count. count == watchdog_limit) (count-viewed start entries low) ∙ met (blanks_since start.latched.count entries)
-  where
-    met : (blanks : ℕ) → (min watchdog_limit blanks == watchdog_limit) ≡ nat_le watchdog_limit blanks
-    met blanks = grind (arith, nat_tests)
+due-viewed start entries low = grind (arith, count-viewed, nat_tests)

@@ -1,9 +1,7 @@
 -- The picture of the board that a history leaves has the lines that the history says.
-use Rattle.std.proofs.Common.{◌≡◌, ◌≢◌, ℕ, ◌<◌, ◌==◌, Bool, true, false, cond}
-use Rattle.std.proofs.Common.{List, [], ◌∷◌, length, slice_index_or, slice_set, length-set, refl, sym, ap, ◌∙◌, arith}
-use Rattle.std.proofs.lemmas.Bool.Decides.{nat_tests}
-use Rattle.std.proofs.lemmas.Grind.{get_or-set_at}
-use Rattle.std.proofs.lemmas.List.{ext_get_or, get_or-set_other}
+use Rattle.std.proofs.Common.{◌≡◌, ℕ, ◌<◌, ◌==◌, cond, rules}
+use Rattle.std.proofs.Common.{List, [], ◌∷◌, length, slice_index_or, slice_set, length-set, refl, sym, ◌∙◌, arith}
+use Rattle.std.proofs.lemmas.List.{ext_get_or}
 use Rattle.pac_map.specs.RomParts.{Parts}
 use Rattle.pac_picture.specs.Tiles.{height}
 use Rattle.pac_cpu.specs.Tabulate.{tabulate}
@@ -25,24 +23,13 @@ lines-high set start (entry ∷ older) fit = lines-high set start older fit
 -- a line after one is set
 line-set : (lines : List (List ℕ)) (line y : ℕ) (composed : ℕ → List ℕ) → y < length lines
     → slice_index_or (slice_set lines line (composed line)) y [] ≡ cond (line == y) (composed y) (slice_index_or lines y [])
-line-set lines line y composed below = choose (line == y) refl
-  where
-    choose : (b : Bool) → (line == y) ≡ b
-        → slice_index_or (slice_set lines line (composed line)) y [] ≡ cond b (composed y) (slice_index_or lines y [])
-    choose true e =
-        let same : y ≡ line = grind (arith, nat_tests) in
-        let inside : line < length lines = omega arith in
-        get_or-set_at lines line y (composed line) [] same inside ∙ ap composed (sym same)
-    choose false e =
-        let apart : y ≢ line = grind (arith, nat_tests) in
-        get_or-set_other lines line y (composed line) [] apart
+line-set lines line y composed below = search rules
 
 pub line-viewed : (set : Parts) (start : BoardView) (entries : List Entry) (y : ℕ) → IsBoard start → y < height
     → slice_index_or (board_after_entries set start entries).lines y [] ≡ line_at set start entries y
 line-viewed set start [] y fit below = refl
 line-viewed set start (Line frame line ∷ older) y fit below =
-    let within : y < length (board_after_entries set start older).lines = let e = lines-high set start older fit in
-    omega (arith, e, below) in
+    let within : y < length (board_after_entries set start older).lines = grind (arith, lines-high) in
     line-set (board_after_entries set start older).lines line y
     (picture_line (video_roms set) (video_memory (board_after_entries set start older).memory)) within
     ∙ (λ i. cond (line == y) (picture_line (video_roms set) (video-memory-kept set start older fit.memory i) y)
@@ -56,5 +43,4 @@ lines-viewed set start entries fit =
     let long = lines-high set start entries fit in
     let line = line_at set start entries in
     ext_get_or [] lines (tabulate height line) (long ∙ sym (length-tabulate height line)) (λ y below.
-    let within : y < height = omega (arith, long, below) in
-    line-viewed set start entries y fit within ∙ sym (get_or-tabulate height line y [] within))
+    grind (arith, get_or-tabulate, line-viewed))

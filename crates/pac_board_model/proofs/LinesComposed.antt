@@ -1,7 +1,8 @@
 -- Each line of a frame's picture is composed at its own moment: when the frame's blank comes, the last composing of each line
 -- was for this frame.
-use Rattle.std.proofs.Common.{◌≡◌, ◌≢◌, ℕ, suc, ◌+◌, ◌-◌, ◌/◌, ◌%◌, ◌==◌, ◌&&◌, ◌<◌, ◌≤◌, if◌then◌else◌, Bool, true, false}
-use Rattle.std.proofs.Common.{nat_le, ◌⊎◌, inl, inr, List, [], ◌∷◌, ◌++◌, refl, sym, ap, subst, ◌∙◌, arith}
+use Rattle.std.proofs.lemmas.Grind.{common_steps}
+use Rattle.std.proofs.Common.{◌≡◌, ◌≢◌, ℕ, suc, ◌+◌, ◌-◌, ◌/◌, ◌%◌, ◌==◌, ◌<◌, ◌≤◌, if◌then◌else◌, Bool, true, false}
+use Rattle.std.proofs.Common.{List, [], ◌∷◌, ◌++◌, refl, sym, ap, subst, ◌∙◌, arith, rules}
 use Rattle.std.proofs.lemmas.Bool.Decides.{nat_tests}
 use Rattle.pac_cpu.specs.PlacedItems.{Item}
 use Rattle.pac_map.specs.RomParts.{Parts}
@@ -15,20 +16,14 @@ use Rattle.pac_board_model.specs.Shown.{memory_at, line_at}
 use Rattle.pac_board_model.specs.Step.{Questions, StepProgress, sample_event, line_event, blank_event, at_moment, scan_line, scan_frame}
 use Rattle.pac_board_model.specs.Step.{sample_ticks, line_ticks, frame_ticks, hidden_lines}
 use Rattle.pac_board_model.specs.Trace.{by_history}
-use Rattle.pac_board_model.proofs.LinesPlaced.{IsPlaced, is-end, quiet-placed, placed-later, placed-now, sampled-now}
-use Rattle.pac_board_model.proofs.RunsKeep.{is_quiet, ends_line, sampled-holds, lined-holds, blanked-holds, run-told}
-use Rattle.pac_board_model.proofs.Walks.{not-both}
+use Rattle.pac_board_model.proofs.LinesPlaced.{IsPlaced, is-end, placed-later, placed-now, sampled-now}
+use Rattle.pac_board_model.proofs.RunsKeep.{is_quiet, ends_line, sampled-holds, lined-holds, run-told}
 
 -- the frame for which a line was last composed, 0 where it never was
 abbrev pub composed_frame : ℕ → List Entry → ℕ
 composed_frame y [] = 0
 composed_frame y (Line frame line ∷ older) = if line == y then frame else composed_frame y older
 composed_frame y (entry ∷ older) = composed_frame y older
-
-quiet-composed : (y : ℕ) (entry : Entry) (entries : List Entry) → is_quiet entry ≡ true
-    → composed_frame y (entry ∷ entries) ≡ composed_frame y entries
-quiet-composed y (Line frame line) entries h = not-both (sym h)
-quiet-composed y entry entries h = refl
 
 -- how many of the moments at which line y is composed have come
 abbrev pub compositions : ℕ → ℕ → ℕ
@@ -70,22 +65,13 @@ composed-found set start frame y (Line other line ∷ older) some h =
           among = ap (λ number. Line number line ∷ older) now ∙ ap (λ number. Line frame number ∷ older) here;
           line = ap (λ b. if b then picture_line (video_roms set) (memory_at start.memory older) y else line_at set start older y) e;
         }
-    choose false e rest =
-        found-older set start frame y (Line other line) older
-        (ap (λ b. if b then picture_line (video_roms set) (memory_at start.memory older) y else line_at set start older y) e)
-        (rest (ap (λ b. if b then other else composed_frame y older) (sym e) ∙ h))
+    choose false e rest = search (rules, found-older)
 composed-found set start frame y (entry ∷ older) some h =
     found-older set start frame y entry older refl (composed-found set start frame y older some h)
 
 found-composed : (set : Parts) (start : BoardView) (frame y : ℕ) (entries : List Entry) → y < height → IsFound set start frame y entries
     → IsComposed set start frame y entries
-found-composed set start frame y entries below found =
-    record {
-      after = found.after;
-      before = found.before;
-      among = found.among;
-      line = get_or-tabulate height (line_at set start entries) y [] below ∙ found.line;
-    }
+found-composed set start frame y entries below found = search (rules, get_or-tabulate)
 
 -- ---- each blank finds all lines composed for its frame
 
@@ -96,11 +82,6 @@ IsExact from (Blank frame ∷ older) =
     × ((y : ℕ) → y < height → compositions y from < frame → composed_frame y older ≡ frame)
     × IsExact from older
 IsExact from (entry ∷ older) = IsExact from older
-
-quiet-exact : (from : ℕ) (entry : Entry) (entries : List Entry) → is_quiet entry ≡ true → IsExact from entries
-    → IsExact from (entry ∷ entries)
-quiet-exact from (Blank frame) entries h exact = not-both (sym h)
-quiet-exact from entry entries h exact = exact
 
 pub exact-at : (from : ℕ) (later older : List Entry) (frame : ℕ) → IsExact from (later ++ Blank frame ∷ older)
     → (1 ≤ frame) × ((y : ℕ) → y < height → compositions y from < frame → composed_frame y older ≡ frame)
@@ -114,48 +95,14 @@ exact-at from (entry ∷ later) older frame exact = exact-at from later older fr
 line-of-frame : (q y : ℕ) → hidden_lines ≤ (q + 263) % 264 → (q + 263) % 264 - hidden_lines ≡ y → (q + 263) / 264 ≡ (q + (223 - y)) / 264
 line-of-frame q y shown same = omega arith
 
-other-line : (p q y : ℕ) → q ≡ suc p → y < height → (q + 263) % 264 ≢ hidden_lines + y → (p + (223 - y)) / 264 ≡ (q + (223 - y)) / 264
-other-line p q y next below other = omega arith
-
-line-over : (time moment : ℕ) → moment ≡ suc time → moment % line_ticks ≡ 0 → moment / line_ticks ≡ suc (time / line_ticks)
-line-over time moment next over = omega arith
-
 line-stays : (time moment : ℕ) → moment ≡ suc time → moment % line_ticks ≢ 0 → moment / line_ticks ≡ time / line_ticks
 line-stays time moment next over = omega arith
-
-no-end : (moment : ℕ) → ends_line moment ≡ false → (moment % line_ticks ≢ 0) ⊎ (scan_line moment < hidden_lines)
-no-end moment h = choose (moment % line_ticks == 0) refl (nat_le hidden_lines (scan_line moment)) refl h
-  where
-    choose : (a : Bool) → (moment % line_ticks == 0) ≡ a → (b : Bool) → nat_le hidden_lines (scan_line moment) ≡ b → (a && b) ≡ false
-        → (moment % line_ticks ≢ 0) ⊎ (scan_line moment < hidden_lines)
-    choose true e true f both = not-both both
-    choose true e false f both = inr (grind (arith, nat_tests))
-    choose false e b f both = inl (grind (arith, nat_tests))
 
 line-ends : (moment y : ℕ) → ends_line moment ≡ true → scan_line moment - hidden_lines ≡ y → scan_frame moment ≡ compositions y moment
 line-ends moment y ends same = line-of-frame (moment / line_ticks) y (is-end moment ends).1 same
 
-line-lasts : (time moment y : ℕ) → moment ≡ suc time → y < height → ends_line moment ≡ true → scan_line moment - hidden_lines ≢ y
-    → compositions y time ≡ compositions y moment
-line-lasts time moment y next below ends other =
-    let end = is-end moment ends in
-    let shown = end.1 in
-    other-line (time / line_ticks) (moment / line_ticks) y (line-over time moment next end.0) below (omega arith)
-
 no-line : (time moment y : ℕ) → moment ≡ suc time → y < height → ends_line moment ≡ false → compositions y time ≡ compositions y moment
-no-line time moment y next below ends = choose (no-end moment ends)
-  where
-    choose : (moment % line_ticks ≢ 0) ⊎ (scan_line moment < hidden_lines) → compositions y time ≡ compositions y moment
-    choose (inl inside) = ap (λ lines. (lines + (223 - y)) / 264) (sym (line-stays time moment next inside))
-    choose (inr hidden) = decide (moment % line_ticks == 0) refl
-      where
-        decide : (b : Bool) → (moment % line_ticks == 0) ≡ b → compositions y time ≡ compositions y moment
-        decide true e =
-            let over : moment % line_ticks ≡ 0 = grind (arith, nat_tests) in
-            other-line (time / line_ticks) (moment / line_ticks) y (line-over time moment next over) below (omega arith)
-        decide false e =
-            let inside : moment % line_ticks ≢ 0 = grind (arith, nat_tests) in
-            ap (λ lines. (lines + (223 - y)) / 264) (sym (line-stays time moment next inside))
+no-line time moment y next below ends = grind (arith, common_steps)
 
 frame-done : (moment y : ℕ) → y < height → moment % frame_ticks ≡ 0 → compositions y moment ≡ moment / frame_ticks
 frame-done moment y below ends = omega arith
@@ -174,26 +121,13 @@ nothing-told time = record { since = omega arith; composed = λ y below grown. a
 
 pub quiet-kept : (from time : ℕ) (entry : Entry) (entries : List Entry) → is_quiet entry ≡ true → IsTold from time entries
     → IsTold from time (entry ∷ entries)
-quiet-kept from time entry entries quiet told =
-    record {
-      since = told.since;
-      composed = λ y below grown. quiet-composed y entry entries quiet ∙ told.composed y below grown;
-      exact = quiet-exact from entry entries quiet told.exact;
-      placed = quiet-placed from time entry entries quiet told.placed;
-    }
+quiet-kept from time entry entries quiet told = grind (arith, common_steps)
 
 composed-now : (from time moment y : ℕ) (entries : List Entry) → moment ≡ suc time → y < height → ends_line moment ≡ true
     → compositions y from < compositions y moment
     → (compositions y from < compositions y time → composed_frame y entries ≡ compositions y time)
     → composed_frame y (Line (scan_frame moment) (scan_line moment - hidden_lines) ∷ entries) ≡ compositions y moment
-composed-now from time moment y entries next below ends grown h = choose (scan_line moment - hidden_lines == y) refl
-  where
-    choose : (b : Bool) → (scan_line moment - hidden_lines == y) ≡ b
-        → (if b then scan_frame moment else composed_frame y entries) ≡ compositions y moment
-    choose true e = line-ends moment y ends (grind (arith, nat_tests))
-    choose false e =
-        let same = line-lasts time moment y next below ends (grind (arith, nat_tests)) in
-        h (subst (λ n. compositions y from < n) (sym same) grown) ∙ same
+composed-now from time moment y entries next below ends grown h = grind (arith, common_steps)
 
 module _ (set : Parts) (items : List Item) (start : BoardView) (from : ℕ) where
   abbrev ask : Questions (List Entry)
@@ -218,29 +152,14 @@ module _ (set : Parts) (items : List Item) (start : BoardView) (from : ℕ) wher
       })
       (λ none. record {
         since = since;
-        composed = λ y below grown.
-            let same = no-line time moment y next below none in
-            told.composed y below (subst (λ n. compositions y from < n) (sym same) grown) ∙ same;
+        composed = grind (arith, no-line);
         exact = told.exact;
         placed = placed;
       })
 
   blank-kept : (time moment : ℕ) (met : StepProgress (List Entry)) → moment ≡ suc time → IsTold from moment met.board
       → IsTold from moment (blank_event ask moment met).board
-  blank-kept time moment met next told =
-      blanked-holds ask (λ after. IsTold from moment after.board) moment met
-      (λ ends.
-      let exact : IsExact from (Blank (moment / frame_ticks) ∷ met.board) = (
-        omega arith,
-        λ y below grown.
-            let done = frame-done moment y below ends in
-            told.composed y below (subst (λ n. compositions y from < n) (sym done) grown) ∙ done,
-        told.exact,
-      ) in (
-        record { since = told.since; composed = told.composed; exact = exact; placed = told.placed },
-        record { since = told.since; composed = told.composed; exact = exact; placed = told.placed },
-      ))
-      (λ none. told)
+  blank-kept time moment met next told = grind (arith, common_steps)
 
   pub moment-kept : (time moment : ℕ) (met : StepProgress (List Entry)) → moment ≡ suc time → IsTold from time met.board
       → IsTold from moment (at_moment ask moment met).board
@@ -261,15 +180,11 @@ before-frame from frame y some below early = omega arith
 pub shown-composed : (set : Parts) (start : BoardView) (from frame y : ℕ) (later older : List Entry)
     → IsExact from (later ++ Blank frame ∷ older) → y < height → (1 ≤ frame → compositions y from < frame)
     → IsComposed set start frame y older
-shown-composed set start from frame y later older exact below early =
-    let blank = exact-at from later older frame exact in
-    found-composed set start frame y older below
-    (composed-found set start frame y older blank.0 (blank.1 y below (early blank.0)))
+shown-composed set start from frame y later older exact below early = search (rules, composed-found, exact-at, found-composed)
 
 pub standing-composed : (set : Parts) (start : BoardView) (frame y : ℕ) (entries : List Entry) → y < height → 1 ≤ frame
     → composed_frame y entries ≡ frame → IsComposed set start frame y entries
-standing-composed set start frame y entries below some is =
-    found-composed set start frame y entries below (composed-found set start frame y entries some is)
+standing-composed set start frame y entries below some is = search (rules, composed-found, found-composed)
 
 pub pictures-are-line-exact : PicturesAreLineExact
 pictures-are-line-exact set items switches index frame play later older e y below =

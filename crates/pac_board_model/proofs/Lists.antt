@@ -8,8 +8,7 @@ use Rattle.pac_map.specs.Entry.{Entry}
 use Rattle.pac_cpu.specs.Tabulate.{tabulate}
 use Rattle.pac_cpu.proofs.Tabulated.{length-tabulate, get_or-tabulate}
 use Rattle.pac_board_model.specs.HistoryProofs.{view_after_entries}
-use Rattle.pac_board_model.specs.History.{tile_at, colour_at, work_at, coordinate_at, register_at}
-use Rattle.pac_board_model.specs.History.{history_registers}
+use Rattle.pac_board_model.specs.History.{tile_at, colour_at, work_at, coordinate_at, register_at, history_registers}
 use Rattle.pac_board_model.proofs.Views.{view-of-well-formed, tile-viewed, colour-viewed, work-viewed, coordinate-viewed, register-viewed}
 
 -- a list of a known length is that of its elements by their places

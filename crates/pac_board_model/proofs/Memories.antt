@@ -21,13 +21,11 @@ memory-viewed set start (entry ∷ older) = ap (λ view. view_after view entry) 
 -- what a sample asks of it, and what a line is composed from
 pub registers-kept : (set : Parts) (start : BoardView) (entries : List Entry) → IsWellFormed start.memory
     → (board_after_entries set start entries).memory.registers ≡ history_registers start.memory entries
-registers-kept set start entries well =
-    ap (λ view. view.registers) (memory-viewed set start entries) ∙ registers-listed start.memory entries well
+registers-kept set start entries well = simp (memory-viewed, registers-listed)
 
 pub sound-kept : (set : Parts) (start : BoardView) (entries : List Entry)
     → (board_after_entries set start entries).memory.latched.bits.sound_enable ≡ bit_at start.memory entries sound_enable
-sound-kept set start entries =
-    ap (λ view. view.latched.bits.sound_enable) (memory-viewed set start entries) ∙ bit-viewed start.memory entries sound_enable
+sound-kept set start entries = cc (memory-viewed set start entries, bit-viewed start.memory entries sound_enable)
 
 pub video-memory-kept : (set : Parts) (start : BoardView) (entries : List Entry) → IsWellFormed start.memory
     → video_memory (board_after_entries set start entries).memory ≡ memory_at start.memory entries

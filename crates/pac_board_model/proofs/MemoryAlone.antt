@@ -1,15 +1,14 @@
 -- Memory alone decides what a board does.
-use Rattle.std.proofs.Common.{◌≡◌, ℕ, ℤ, List, [], ◌∷◌, refl, ap, ◌∙◌, sym}
+use Rattle.std.proofs.Common.{◌≡◌, ℕ, ℤ, List, [], ◌∷◌, ap, ◌∙◌, sym, rules}
 use Rattle.std.specs.Option.{option_or}
 use Rattle.pac_cpu.specs.Instructions.{decoded_instruction}
 use Rattle.pac_cpu.specs.PlacedItems.{Item}
 use Rattle.pac_cpu.specs.Reads.{four_from}
-use Rattle.pac_map.specs.Entry.{Entry, Write, Vector, Sample, Line, Blank, Accept, Reset, Hold, view_after}
+use Rattle.pac_map.specs.Entry.{Entry}
 use Rattle.pac_map.specs.Place.{read_place}
 use Rattle.pac_map.specs.RomParts.{Parts}
 use Rattle.pac_map.specs.View.{View}
-use Rattle.pac_board_model.specs.BoardView.{BoardView, board_after}
-use Rattle.pac_board_model.specs.Carried.{moment_view}
+use Rattle.pac_board_model.specs.BoardView.{BoardView}
 use Rattle.pac_board_model.specs.CarriedProofs.{Carries}
 use Rattle.pac_board_model.specs.History.{read}
 use Rattle.pac_board_model.specs.MemoryLaws.{by_memory, MemoryWalksAlone, HistoryIsOfMemory, MemoryDecides}
@@ -24,29 +23,10 @@ use Rattle.pac_board_model.proofs.Muted.{with_other_outputs, muted_walk, walk-al
 abbrev memory : BoardView → View
 memory board = board.memory
 
-memory-after : (set : Parts) (board : BoardView) (entry : Entry)
-    → memory (board_after set board entry) ≡ view_after (memory board) entry
-memory-after set board (Write place byte) = refl
-memory-after set board (Vector byte) = refl
-memory-after set board (Sample number) = refl
-memory-after set board (Line frame line) = refl
-memory-after set board (Blank frame) = refl
-memory-after set board Accept = refl
-memory-after set board Reset = refl
-memory-after set board (Hold mask) = refl
-
 memory-carries : (set : Parts) (sample : View → ℤ) (image : View → Image)
     → Carries memory (with_other_outputs (by_view set) (λ board. sample board.memory) (λ board. image board.memory))
     (by_memory set sample image)
-memory-carries set sample image = record {
-  put = memory-after set;
-  read = λ board at. refl;
-  instruction = λ board at. refl;
-  request = λ board. refl;
-  sample = λ board. refl;
-  image = λ board. refl;
-  is_due = λ board. refl;
-}
+memory-carries set sample image = search rules
 
 walks-alone : MemoryWalksAlone
 walks-alone set sample image limit tries from =
@@ -56,11 +36,7 @@ walks-alone set sample image limit tries from =
     let alike = walk-alike (by_view set) heard seen limit from tries in
     let carried =
     walk-carried memory (step ask) (step (by_memory set sample image))
-    (step-carried memory ask (by_memory set sample image) (memory-carries set sample image)) limit from tries in
-    record {
-      now = ap (λ walked. moment_view memory walked.now) alike ∙ ap (λ walked. walked.now) carried;
-      stop = ap (λ walked. walked.stop) alike ∙ ap (λ walked. walked.stop) carried;
-    }
+    (step-carried memory ask (by_memory set sample image) (memory-carries set sample image)) limit from tries in search rules
 
 -- the history's account of a board of this memory, which gives out nothing that matters
 abbrev silent_history : Parts → List Item → ℤ → Image → View → Questions (List Entry)

@@ -1,18 +1,17 @@
 -- What a run gives out is what its history says: each sample, each picture, and how many of them by when.
-use Rattle.std.proofs.Common.{◌≡◌, ◌≢◌, ℕ, suc, ◌/◌, ◌%◌, true}
-use Rattle.std.proofs.Common.{List, [], ◌∷◌, ◌++◌, refl, sym, ap, ◌∙◌, append_assoc, arith}
+use Rattle.std.proofs.lemmas.Grind.{common_steps}
+use Rattle.std.proofs.Common.{◌≡◌, ◌≢◌, ℕ, suc, ◌/◌, ◌%◌, true, List, [], ◌∷◌, ◌++◌, refl, sym, ap, ◌∙◌, append_assoc, arith}
 use Rattle.std.proofs.lemmas.List.{append-nil}
 use Rattle.pac_cpu.specs.PlacedItems.{Item}
 use Rattle.pac_map.specs.RomParts.{Parts}
-use Rattle.pac_map.specs.Entry.{Entry, Sample, Line, Blank}
+use Rattle.pac_map.specs.Entry.{Entry}
 use Rattle.pac_board_model.specs.BoardView.{BoardView, power_on_board_view}
 use Rattle.pac_board_model.specs.Laws.{OutputsAreOfTheHistory, OutputsAreTimed}
-use Rattle.pac_board_model.specs.Output.{Output, Sound, Show}
+use Rattle.pac_board_model.specs.Output.{Output}
 use Rattle.pac_board_model.specs.Resumed.{ResumedOutputsAreOfTheHistory}
 use Rattle.pac_board_model.specs.ShownLaws.{history_outputs, sample_count}
 use Rattle.pac_board_model.specs.Shown.{blank_count}
-use Rattle.pac_board_model.specs.Step.{Questions, StepProgress, sample_event, line_event, at_moment}
-use Rattle.pac_board_model.specs.Step.{sample_ticks, frame_ticks}
+use Rattle.pac_board_model.specs.Step.{Questions, StepProgress, at_moment, sample_ticks, frame_ticks}
 use Rattle.pac_board_model.specs.Trace.{by_history}
 use Rattle.pac_board_model.proofs.RunsKeep.{is_quiet, sampled-holds, lined-holds, blanked-holds, run-told, resumed-told}
 use Rattle.pac_board_model.proofs.Walks.{not-both}
@@ -27,10 +26,7 @@ module _ (set : Parts) (items : List Item) (start : BoardView) where
   told entries = history_outputs set start entries
 
   quiet-told : (entry : Entry) (entries : List Entry) → is_quiet entry ≡ true → told (entry ∷ entries) ≡ told entries
-  quiet-told (Sample number) entries h = not-both (sym h)
-  quiet-told (Line frame line) entries h = not-both (sym h)
-  quiet-told (Blank frame) entries h = not-both (sym h)
-  quiet-told entry entries h = refl
+  quiet-told entry entries h = grind (arith, not-both)
 
   -- so are those of a moment's events
   IsTold : List Output → StepProgress (List Entry) → Type 0
@@ -45,13 +41,7 @@ module _ (set : Parts) (items : List Item) (start : BoardView) where
   moment-told : (moment : ℕ) (given : List Output) (met : StepProgress (List Entry)) → IsTold given met →
       IsTold given (at_moment ask moment met)
   unfolding IsTold
-  moment-told moment given met h =
-      let sounded = sample_event ask moment met in
-      let seen = line_event ask moment sounded in
-      let first = sampled-holds ask (IsTold given) moment met (λ _. gives-told given met (Sound (ask.sample met.board)) h) (λ _. h) in
-      let second = lined-holds ask (IsTold given) moment sounded (λ _. first) (λ _. first) in
-      let third = gives-told given seen (Show (ask.image seen.board)) second in
-      blanked-holds ask (IsTold given) moment seen (λ _. (third, third)) (λ _. second)
+  moment-told moment given met h = grind (arith, IsTold, blanked-holds, gives-told, lined-holds, sampled-holds)
 
 pub outputs-of-history : OutputsAreOfTheHistory
 unfolding IsTold
@@ -75,12 +65,10 @@ resumed-outputs set items start play from index =
 -- ---- how many by when
 
 pub quiet-samples : (entry : Entry) (entries : List Entry) → is_quiet entry ≡ true → sample_count (entry ∷ entries) ≡ sample_count entries
-quiet-samples (Sample number) entries h = not-both (sym h)
-quiet-samples entry entries h = refl
+quiet-samples entry entries h = grind (arith, not-both)
 
 quiet-blanks : (entry : Entry) (entries : List Entry) → is_quiet entry ≡ true → blank_count (entry ∷ entries) ≡ blank_count entries
-quiet-blanks (Blank frame) entries h = not-both (sym h)
-quiet-blanks entry entries h = refl
+quiet-blanks entry entries h = grind (arith, not-both)
 
 -- from one moment to the next the count of samples, or of frames, grows where one ends
 pub sample-ends : (time moment : ℕ) → moment ≡ suc time → moment % sample_ticks ≡ 0 → suc (time / sample_ticks) ≡ moment / sample_ticks
@@ -102,17 +90,7 @@ module _ (set : Parts) (items : List Item) (start : BoardView) where
   moment-samples : (time moment : ℕ) (met : StepProgress (List Entry)) → moment ≡ suc time → sample_count met.board ≡ time / sample_ticks
       → sample_count (at_moment (by_history set items start) moment met).board ≡ moment / sample_ticks
   unfolding HasSamples
-  moment-samples time moment met next h =
-      let ask = by_history set items start in
-      let Counted = HasSamples (moment / sample_ticks) in
-      let sounded = sample_event ask moment met in
-      let seen = line_event ask moment sounded in
-      let one : suc (sample_count met.board) ≡ suc (time / sample_ticks) = ap suc h in
-      let first = sampled-holds ask Counted moment met
-      (λ ends. one ∙ sample-ends time moment next ends)
-      (λ lasts. h ∙ sample-lasts time moment next lasts) in
-      let second = lined-holds ask Counted moment sounded (λ _. first) (λ _. first) in
-      blanked-holds ask Counted moment seen (λ _. (second, second)) (λ _. second)
+  moment-samples time moment met next h = grind (arith, common_steps)
 
   HasBlanks : ℕ → StepProgress (List Entry) → Type 0
   HasBlanks count met = blank_count met.board ≡ count
@@ -120,16 +98,7 @@ module _ (set : Parts) (items : List Item) (start : BoardView) where
   moment-blanks : (time moment : ℕ) (met : StepProgress (List Entry)) → moment ≡ suc time → blank_count met.board ≡ time / frame_ticks
       → blank_count (at_moment (by_history set items start) moment met).board ≡ moment / frame_ticks
   unfolding HasBlanks
-  moment-blanks time moment met next h =
-      let ask = by_history set items start in
-      let sounded = sample_event ask moment met in
-      let seen = line_event ask moment sounded in
-      let Before = HasBlanks (time / frame_ticks) in
-      let first = sampled-holds ask Before moment met (λ _. h) (λ _. h) in
-      let second = lined-holds ask Before moment sounded (λ _. first) (λ _. first) in
-      blanked-holds ask (HasBlanks (moment / frame_ticks)) moment seen
-      (λ ends. let one = ap suc second ∙ frame-ends time moment next ends in (one, one))
-      (λ lasts. second ∙ frame-lasts time moment next lasts)
+  moment-blanks time moment met next h = grind (arith, common_steps)
 
 pub outputs-timed : OutputsAreTimed
 outputs-timed set items switches index play =

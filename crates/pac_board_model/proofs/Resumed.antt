@@ -1,6 +1,6 @@
 -- A play that is taken up at any moment: its run ends; from power-on it is the trace; and two plays one after another are both at once.
-use Rattle.std.proofs.Common.{◌≡◌, ℕ, zero, suc, ◌+◌, ◌-◌, ◌*◌, ◌/◌, ◌==◌, if◌then◌else◌, ◌<◌, ◌≤◌, ◌⊎◌, inl, inr, None, Some}
-use Rattle.std.proofs.Common.{Bool, true, false, nat_le, List, ◌++◌, refl, sym, ap, subst, ◌∙◌, arith}
+use Rattle.std.proofs.Common.{◌≡◌, ℕ, zero, suc, ◌+◌, ◌-◌, ◌*◌, ◌/◌, ◌==◌, if◌then◌else◌, ◌<◌, ◌≤◌, ◌⊎◌, inl, inr, None, Some, rules}
+use Rattle.std.proofs.Common.{Bool, true, false, nat_le, List, ◌++◌, refl, sym, ap, ◌∙◌, arith}
 use Rattle.std.proofs.lemmas.Bool.Decides.{nat_tests}
 use Rattle.pac_cpu.specs.declared.once.Stop.{Stop}
 use Rattle.pac_cpu.specs.Instructions.{most_ticks}
@@ -8,7 +8,7 @@ use Rattle.pac_map.specs.Entry.{Hold}
 use Rattle.pac_board_model.specs.Laws.{IsTimely}
 use Rattle.pac_board_model.specs.Output.{Output}
 use Rattle.pac_board_model.specs.Resumed.{RunsBegin, ResumedRunsEnd, JoinsPlays, LastIsHeld, RunsAreContinued, PlaysJoin, StoppedRunsStay}
-use Rattle.pac_board_model.specs.Step.{Questions, Moment, Next, Goes, Ends, frame_ticks, step}
+use Rattle.pac_board_model.specs.Step.{Questions, Moment, Next, Goes, Ends, frame_ticks}
 use Rattle.pac_board_model.specs.Trace.{Play, by_view, moment_with_inputs, next_with_inputs, play_step, power_on_moment, frame_steps}
 use Rattle.pac_board_model.specs.Trace.{run_at, frames_gone, resumed_start, resumed_step, resumed_end, resumed}
 use Rattle.pac_board_model.specs.TraceLaws.{resumed_at, plays_joined}
@@ -26,21 +26,15 @@ module _ {Board : Type 0} (ask : Questions Board) (play : Play) (from : Moment B
   gone = frames_gone from
 
   pub resumed-ends : has_ended (resumed_end play gone) (resumed ask play from) ≡ true
-  resumed-ends =
-      walk-to-ends (resumed_step ask play gone) (resumed_end play gone) (play-timely ask (λ frame. play.held (frame - gone)))
-      (resumed_start ask play from)
+  resumed-ends = grind (arith, play-timely, walk-to-ends)
 
   -- as many steps as its frames can have are enough
   enough-ends : has_ended (resumed_end play gone) (resumed_at ask play from (frame_steps * play.frames)) ≡ true
-  enough-ends =
-      walk-ends (resumed_step ask play gone) (resumed_end play gone) (play-timely ask (λ frame. play.held (frame - gone)))
-      (resumed_start ask play from) (frame_steps * play.frames) (omega arith)
+  enough-ends = grind (arith, play-timely, walk-ends)
 
   pub ended-is-resumed : (index : ℕ) → has_ended (resumed_end play gone) (resumed_at ask play from index) ≡ true
       → resumed_at ask play from index ≡ resumed ask play from
-  ended-is-resumed index ended =
-      ended-whole (resumed_step ask play gone) (resumed_end play gone) (play-timely ask (λ frame. play.held (frame - gone)))
-      (resumed_start ask play from) index ended
+  ended-is-resumed index ended = grind (arith, ended-whole, play-timely)
 
   pub enough-is-resumed : resumed_at ask play from (frame_steps * play.frames) ≡ resumed ask play from
   enough-is-resumed = ended-is-resumed (frame_steps * play.frames) enough-ends
@@ -51,19 +45,15 @@ module _ {Board : Type 0} (ask : Questions Board) (play : Play) (from : Moment B
 
   pub resumed-below : (bound : ℕ) → resumed_end play gone + most_ticks ≤ bound → from.time < bound
       → (resumed ask play from).now.time < bound
-  resumed-below bound within below =
-      walk-below (resumed_step ask play gone) (resumed_end play gone) (play-timely ask (λ frame. play.held (frame - gone))) bound within
-      (resumed_start ask play from) (resumed_end play gone) below
+  resumed-below bound within below = grind (arith, play-timely, walk-below)
 
   pub resumed-gone : (resumed ask play from).stop ≡ None → frames_gone (resumed ask play from).now ≡ gone + play.frames
   resumed-gone open_yet =
-      let late = resumed-late open_yet in
       let below = resumed-below (frame_ticks * (gone + play.frames + 1)) (omega arith) (omega arith) in
-      omega (arith, late, below)
+      omega (arith, resumed-late open_yet, below)
 
 pub resumed-runs-end : {Board : Type 0} → ResumedRunsEnd Board
-resumed-runs-end ask play from =
-    record { ended = resumed-ends ask play from; enough = enough-is-resumed ask play from; one = ended-is-resumed ask play from }
+resumed-runs-end ask play from = grind (arith, ended-is-resumed, enough-is-resumed, resumed-ends)
 
 -- ---- from power-on no frame has gone by
 
@@ -71,19 +61,11 @@ module _ {Board : Type 0} (ask : Questions Board) (play : Play) (board : Board) 
   abbrev power : Moment Board
   power = power_on_moment (ask.put board (Hold (play.held 1)))
 
-  none-less : (frame : ℕ) → frame - 0 ≡ frame
-  none-less frame = omega arith
-
-  same-inputs : (λ (frame : ℕ). play.held (frame - 0)) ≡ play.held
-  same-inputs = λ i. λ frame. play.held (none-less frame i)
-
   same-end : frame_ticks * (0 + play.frames) ≡ frame_ticks * play.frames
   same-end = omega arith
 
   pub begins-at : (index : ℕ) → resumed_at ask play (power_on_moment board) index ≡ run_at ask play board index
-  begins-at index =
-      ap (λ held. walk (play_step ask held) (frame_ticks * (0 + play.frames)) power index) same-inputs
-      ∙ ap (λ limit. walk (play_step ask play.held) limit power index) same-end
+  begins-at index = search rules
 
 pub runs-begin : {Board : Type 0} → RunsBegin Board
 runs-begin ask play board = record {
@@ -117,10 +99,7 @@ module _ {Board : Type 0} (ask : Questions Board) (held other : ℕ → ℕ) (en
   Alike w v = ((w.now.time < limit) × (w ≡ v)) ⊎ HeldApart w v
 
   apart-late : (w v : Walk Board) → HeldApart w v → (limit ≤ w.now.time) × (limit ≤ v.now.time)
-  apart-late w v apart =
-      let one = ap (λ (w : Walk Board). w.now.time) apart.one_is in
-      let two = ap (λ (w : Walk Board). w.now.time) apart.other_is in
-      let late = apart.late in (omega arith, omega arith)
+  apart-late w v apart = search rules
 
   -- where a step goes, by whether it ended a frame
   abbrev gone_with : Walk Board → Moment Board → List Output → ℕ → Walk Board
@@ -138,12 +117,9 @@ module _ {Board : Type 0} (ask : Questions Board) (held other : ℕ → ℕ) (en
     where
       choose : (b : Bool) → (w.now.time / frame_ticks == after.time / frame_ticks) ≡ b → (late : Bool) → nat_le limit after.time ≡ late
           → Alike (gone_to w after outputs held b) (gone_to w after outputs other b)
-      choose true e late l =
-          let frame : w.now.time / frame_ticks ≡ after.time / frame_ticks = grind (arith, nat_tests) in
-          let still : after.time < limit = omega arith in inl (still, refl)
+      choose true e late l = search rules
       choose false e true l =
           let late : limit ≤ after.time = grind (arith, nat_tests) in
-          let most = times.1 in
           let number : after.time / frame_ticks + 1 ≡ suc ended = omega arith in
           inr (record {
             before = record { now = after; outputs = w.outputs ++ outputs; stop = None };
@@ -152,10 +128,7 @@ module _ {Board : Type 0} (ask : Questions Board) (held other : ℕ → ℕ) (en
             one_is = refl;
             other_is = ap (gone_with w after outputs) (ap other number ∙ next_is);
           })
-      choose false e false l =
-          let still : after.time < limit = grind (arith, nat_tests) in
-          let within : after.time / frame_ticks + 1 ≤ ended = omega arith in
-          inl (still, ap (gone_with w after outputs) (same (after.time / frame_ticks + 1) within))
+      choose false e false l = search rules
 
   abbrev one : Moment Board → Next Board
   one = play_step ask held
@@ -165,21 +138,10 @@ module _ {Board : Type 0} (ask : Questions Board) (held other : ℕ → ℕ) (en
 
   both-onward : (w : Walk Board) (over : Bool) → has_ended limit w ≡ over → w.now.time < limit
       → Alike (walk_onward one limit w) (walk_onward two limit w)
-  both-onward w true e early =
-      subst (λ v. Alike v (walk_onward two limit w)) (sym (ended-stays one limit w e))
-      (subst (λ v. Alike w v) (sym (ended-stays two limit w e)) (inl (early, refl)))
-  both-onward w false e early =
-      subst (λ v. Alike v (walk_onward two limit w)) (sym (going-steps one limit w e))
-      (subst (λ v. Alike (walk_after_step w (one w.now)) v) (sym (going-steps two limit w e))
-      (step-alike w (step ask w.now) (step-timely ask w.now) early))
+  both-onward w over e early = grind (arith, ended-stays, going-steps, step-alike, step-timely)
 
   onward-alike : (w v : Walk Board) → Alike w v → Alike (walk_onward one limit w) (walk_onward two limit v)
-  onward-alike w v (inl both) =
-      subst (λ v. Alike (walk_onward one limit w) (walk_onward two limit v)) both.1 (both-onward w (has_ended limit w) refl both.0)
-  onward-alike w v (inr apart) =
-      let late = apart-late w v apart in
-      subst (λ x. Alike x (walk_onward two limit v)) (sym (ended-stays one limit w (late-has-ended limit w late.0)))
-      (subst (λ x. Alike w x) (sym (ended-stays two limit v (late-has-ended limit v late.1))) (inr apart))
+  onward-alike w v alike = grind (arith, apart-late, both-onward, ended-stays, late-has-ended)
 
   pub walk-alike : (start begun : Moment Board) (n : ℕ) → Alike (walk_at_start start) (walk_at_start begun)
       → Alike (walk one limit start n) (walk two limit begun n)
@@ -193,21 +155,11 @@ module _ {Board : Type 0} (ask : Questions Board) (held other : ℕ → ℕ) (en
     (same : (frame : ℕ) → ended < frame → held frame ≡ other frame) (limit : ℕ) where
   next-same : (now : Moment Board) (h : Next Board) → IsTimely now h → frame_ticks * ended ≤ now.time
       → next_with_inputs ask held now.time h ≡ next_with_inputs ask other now.time h
-  next-same now (Goes after outputs kind) times begun =
-      let least = times.0 in
-      let later : ended < after.time / frame_ticks + 1 = omega arith in
-      ap (λ mask. Goes (if now.time / frame_ticks == after.time / frame_ticks then after else moment_held ask after mask) outputs kind)
-      (same (after.time / frame_ticks + 1) later)
-  next-same now (Ends stop) times begun = refl
+  next-same now h times begun = search rules
 
   onward-same : (w : Walk Board) (over : Bool) → has_ended limit w ≡ over → (over ≡ false → frame_ticks * ended ≤ w.now.time)
       → walk_onward (play_step ask held) limit w ≡ walk_onward (play_step ask other) limit w
-  onward-same w true e begun =
-      ended-stays (play_step ask held) limit w e ∙ sym (ended-stays (play_step ask other) limit w e)
-  onward-same w false e begun =
-      going-steps (play_step ask held) limit w e
-      ∙ ap (walk_after_step w) (next-same w.now (step ask w.now) (step-timely ask w.now) (begun refl))
-      ∙ sym (going-steps (play_step ask other) limit w e)
+  onward-same w over e begun = search rules
 
   pub walk-same : (from : Moment Board) (n : ℕ) → frame_ticks * ended ≤ from.time
       → walk (play_step ask held) limit from n ≡ walk (play_step ask other) limit from n
@@ -236,21 +188,13 @@ module _ {Board : Type 0} (ask : Questions Board) (first second : Play) (from : 
   held_by frame early = if early then first.held frame else second.held (frame - first.frames)
 
   first-held : (frame : ℕ) → frame ≤ between → first.held (frame - before) ≡ both.held (frame - before)
-  first-held frame within =
-      let less : frame - before ≤ first.frames = omega arith in
-      let early : nat_le (frame - before) first.frames ≡ true = grind (arith, nat_tests) in ap (held_by (frame - before)) (sym early)
+  first-held frame within = search rules
 
   second-held : (frame : ℕ) → between < frame → second.held (frame - between) ≡ both.held (frame - before)
-  second-held frame later =
-      let more : first.frames < frame - before = omega arith in
-      let late : nat_le (frame - before) first.frames ≡ false = grind (arith, nat_tests) in
-      let number : frame - between ≡ frame - before - first.frames = omega arith in
-      ap second.held number ∙ ap (held_by (frame - before)) (sym late)
+  second-held frame later = search rules
 
   next-held : both.held (suc between - before) ≡ second.held 1
-  next-held =
-      let number : suc between - between ≡ 1 = omega arith in
-      sym (second-held (suc between) (omega arith)) ∙ ap second.held number
+  next-held = search rules
 
   abbrev held_first : ℕ → ℕ
   held_first frame = first.held (frame - before)
@@ -269,10 +213,7 @@ module _ {Board : Type 0} (ask : Questions Board) (first second : Play) (from : 
     where
       choose : (some : Bool) → nat_le 1 first.frames ≡ some
           → IsAlike (walk_at_start (resumed_start ask first from)) (walk_at_start (resumed_start ask both from))
-      choose true e =
-          let one : 1 ≤ first.frames = grind (arith, nat_tests) in
-          let early : from.time < frame_ticks * between = omega arith in
-          inl (early, ap begun (ap (held_by 1) (sym e)))
+      choose true e = search rules
       choose false e =
           let none : first.frames ≡ 0 = grind (arith, nat_tests) in
           let number : 1 - first.frames ≡ 1 = omega arith in
@@ -290,9 +231,7 @@ module _ {Board : Type 0} (ask : Questions Board) (first second : Play) (from : 
   half = walk_to (resumed_step ask both before) (resumed_end first before) (resumed_start ask both from)
 
   halves-alike : IsAlike (resumed ask first from) half
-  halves-alike =
-      walk-alike ask held_first held_both between (second.held 1) first-held next-held (resumed_start ask first from)
-      (resumed_start ask both from) (resumed_end first before) starts-alike
+  halves-alike = search (rules, first-held, next-held, starts-alike, walk-alike)
 
   within-both : resumed_end first before ≤ resumed_end both before
   within-both = omega arith
@@ -315,9 +254,7 @@ module _ {Board : Type 0} (ask : Questions Board) (first second : Play) (from : 
       choose (inr apart) =
           let early = stopped-is-early (resumed_step ask first before) (resumed_end first before) (resumed_start ask first from)
           (resumed_end first before) stop met in
-          let time = ap (λ (w : Walk Board). w.now.time) apart.one_is in
-          let late = apart.late in
-          absurd (omega (arith, early, time, late))
+          absurd (omega (arith, early, ap (λ (w : Walk Board). w.now.time) apart.one_is))
 
   -- no stop
   module _ (last_held : LastIsHeld ask) (open_yet : (resumed ask first from).stop ≡ None) where
@@ -333,27 +270,18 @@ module _ {Board : Type 0} (ask : Questions Board) (first second : Play) (from : 
       outputs : (resumed ask first from).outputs ≡ half.outputs
 
     meets : IsAlike (resumed ask first from) half → Meets
-    meets (inl same) =
-        let late = resumed-late ask first from open_yet in let early = same.0 in absurd (omega (arith, late, early))
-    meets (inr apart) = record {
-      start =
-          ap (λ (w : Walk Board). moment_held ask w.now (second.held 1)) apart.one_is
-          ∙ ap (with_board apart.before.now) (last_held apart.before.now.board apart.last (second.held 1))
-          ∙ ap (λ (w : Walk Board). w.now) (sym apart.other_is);
-      outputs = ap (λ (w : Walk Board). w.outputs) apart.one_is ∙ ap (λ (w : Walk Board). w.outputs) (sym apart.other_is);
-    }
+    meets alike = grind (arith, resumed-late)
 
     -- the second play's run is the rest of both
     second-is : resumed ask second middle ≡ walk_to (resumed_step ask both before) (resumed_end both before) half.now
     second-is =
         let gone = resumed-gone ask first from open_yet in
-        let late = resumed-late ask first from open_yet in
         let start = resumed_start ask second middle in
         let limit : resumed_end second between ≡ resumed_end both before = omega arith in
         ap (λ gone. walk_to (resumed_step ask second gone) (resumed_end second gone) start) gone
         ∙ ap (λ limit. walk_to (resumed_step ask second between) limit start) limit
         ∙ walk-same ask (λ frame. second.held (frame - between)) held_both between second-held (resumed_end both before) start
-        (resumed_end both before) late
+        (resumed_end both before) (resumed-late ask first from open_yet)
         ∙ ap (walk_to (resumed_step ask both before) (resumed_end both before)) (meets halves-alike).start
 
     whole-is : joined (resumed_step ask both before) (resumed_end both before) half
@@ -363,14 +291,7 @@ module _ {Board : Type 0} (ask : Questions Board) (first second : Play) (from : 
         (resumed_start ask both from) within-both
 
     pub runs-on : JoinsPlays ask first second from
-    runs-on = record {
-      now = ap (λ (w : Walk Board). w.now) second-is ∙ ap (λ (w : Walk Board). w.now) whole-is;
-      stop = ap (λ (w : Walk Board). w.stop) second-is ∙ ap (λ (w : Walk Board). w.stop) whole-is;
-      outputs =
-          ap (λ xs. xs ++ (resumed ask second middle).outputs) (meets halves-alike).outputs
-          ∙ ap (λ (w : Walk Board). half.outputs ++ w.outputs) second-is
-          ∙ ap (λ (w : Walk Board). w.outputs) whole-is;
-    }
+    runs-on = grind (arith, halves-alike, meets, second-is, whole-is)
 
 -- ---- the laws
 

@@ -1,11 +1,10 @@
 -- The samples and the pictures of a play that is taken up at any moment: how many have come by when.
-use Rattle.std.proofs.Common.{◌≡◌, ℕ, suc, ◌+◌, ◌/◌, ◌%◌}
-use Rattle.std.proofs.Common.{List, [], ◌∷◌, ◌++◌, refl, sym, ap, ◌∙◌, append_assoc, arith}
+use Rattle.std.proofs.Common.{◌≡◌, ℕ, suc, ◌+◌, ◌/◌, ◌%◌, List, [], ◌∷◌, ◌++◌, refl, sym, ap, ◌∙◌, append_assoc, arith}
 use Rattle.pac_board_model.specs.Output.{Output, Sound, Show, sound_count, picture_count}
 use Rattle.pac_board_model.specs.Resumed.{ResumedRunsAreTimed, ResumedRunsHaveTheirFrames}
 use Rattle.pac_board_model.specs.Step.{Questions, StepProgress, sample_event, line_event, at_moment, sample_ticks, frame_ticks}
-use Rattle.pac_board_model.specs.Trace.{frames_gone, resumed_end, resumed}
-use Rattle.pac_board_model.proofs.Outputs.{sample-ends, sample-lasts, frame-ends, frame-lasts}
+use Rattle.pac_board_model.specs.Trace.{frames_gone, resumed_end}
+use Rattle.pac_board_model.proofs.Outputs.{sample-lasts, frame-ends, frame-lasts}
 use Rattle.pac_board_model.proofs.Resumed.{resumed-late, resumed-below, resumed-gone}
 use Rattle.pac_board_model.proofs.RunsKeep.{sampled-holds, lined-holds, blanked-holds, resumed-told}
 
@@ -53,8 +52,7 @@ module _ {Board : Type 0} (ask : Questions Board) (given : List Output) (before 
       ∙ sound-stays (given ++ seen.outputs) (ask.image seen.board) in
       let first = sampled-holds ask Counted moment met
       (λ ends.
-      let more = sample-ends time moment next ends in
-      let counted : sound_count (given ++ (met.outputs ++ sound ∷ [])) + before ≡ moment / sample_ticks = omega (arith, one, more, h) in
+      let counted : sound_count (given ++ (met.outputs ++ sound ∷ [])) + before ≡ moment / sample_ticks = omega (arith, one, h) in
       counted)
       (λ lasts. h ∙ sample-lasts time moment next lasts) in
       let second = lined-holds ask Counted moment sounded (λ _. first) (λ _. first) in
@@ -105,7 +103,6 @@ resumed-runs-are-timed ask play from index = record {
 pub resumed-runs-have-their-frames : {Board : Type 0} → ResumedRunsHaveTheirFrames Board
 resumed-runs-have-their-frames ask play from open_yet =
     let gone = frames_gone from in
-    let run = resumed ask play from in
     let timed = resumed-runs-are-timed ask play from (resumed_end play gone) in
     let frames = resumed-gone ask play from open_yet in
     let late = resumed-late ask play from open_yet in

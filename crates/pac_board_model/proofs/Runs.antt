@@ -1,18 +1,16 @@
 -- Runs: they end, and they are their frames, one played after another.
 use Rattle.std.proofs.Common.{◌≡◌, ℕ, zero, suc, ◌+◌, ◌*◌, ◌/◌, ◌==◌, if◌then◌else◌, ◌<◌, ◌≤◌, Option, None, Some, Bool, true, false, not}
-use Rattle.std.proofs.Common.{is_some, ◌||◌, nat_le, ◌++◌, refl, sym, ap, ◌∙◌, arith}
-use Rattle.std.proofs.lemmas.Bool.Decides.{nat_tests}
+use Rattle.std.proofs.Common.{nat_le, refl, ap, ◌∙◌, arith, rules}
 use Rattle.pac_cpu.specs.declared.once.Stop.{Stop}
 use Rattle.pac_cpu.specs.Instructions.{most_ticks}
 use Rattle.pac_map.specs.Entry.{Hold}
 use Rattle.pac_board_model.specs.Laws.{IsTimely, RunsEnd, RunsAreJoined, RunsGoByFrames, with_frame, next_frame}
-use Rattle.pac_board_model.specs.Step.{Questions, Moment, Next, Goes, Ends, frame_ticks, step}
-use Rattle.pac_board_model.specs.Trace.{Play, moment_with_inputs, next_with_inputs, play_step, power_on_moment, trace, frame_steps}
-use Rattle.pac_board_model.specs.Walk.{Walk, walk, walk_to, walk_at_start, walk_onward, onward_if, walk_after_step}
+use Rattle.pac_board_model.specs.Step.{Questions, Moment, Next, frame_ticks, step}
+use Rattle.pac_board_model.specs.Trace.{Play, moment_with_inputs, play_step, power_on_moment, trace, frame_steps}
+use Rattle.pac_board_model.specs.Walk.{Walk, walk, walk_to, walk_onward, onward_if}
 use Rattle.pac_board_model.specs.WalkLaws.{has_ended}
-use Rattle.pac_board_model.proofs.Walks.{stopped-has-ended, open-is-late, going-is-early, going-far, ended-same, ended-stays, going-steps}
+use Rattle.pac_board_model.proofs.Walks.{stopped-has-ended, open-is-late, going-far, ended-same}
 use Rattle.pac_board_model.proofs.Walks.{walk-ends, walk-to-ends, goes-on, joined, on-the-way, outputs-prefix, step-timely, play-timely}
-use Rattle.pac_board_model.proofs.Walks.{not-both}
 
 -- ---- a run ends
 
@@ -22,17 +20,10 @@ first ask held board = power_on_moment (ask.put board (Hold (held 1)))
 
 trace-ends : {Board : Type 0} (ask : Questions Board) (play : Play) (board : Board)
     → has_ended (frame_ticks * play.frames) (trace ask play board) ≡ true
-trace-ends ask play board =
-    walk-ends (play_step ask play.held) (frame_ticks * play.frames) (play-timely ask play.held) (first ask play.held board)
-    (frame_steps * play.frames) (omega arith)
+trace-ends ask play board = grind (arith, play-timely, walk-ends)
 
 pub runs-end : {Board : Type 0} → RunsEnd Board
-runs-end ask play board index = (
-  trace-ends ask play board,
-  λ ended.
-      ended-same (play_step ask play.held) (frame_ticks * play.frames) (first ask play.held board) index (frame_steps * play.frames) ended
-      (trace-ends ask play board),
-)
+runs-end ask play board index = grind (arith, ended-same, trace-ends)
 
 pub runs-are-joined : {Board : Type 0} → RunsAreJoined Board
 runs-are-joined ask play board index more =
@@ -42,16 +33,9 @@ runs-are-joined ask play board index more =
 
 module _ {Board : Type 0} (next : Moment Board → Next Board) (limit : ℕ) (timely : (now : Moment Board) → IsTimely now (next now)) where
   module _ (bound : ℕ) (within : limit + most_ticks ≤ bound) where
-    step-below : (w : Walk Board) (h : Next Board) → IsTimely w.now h → w.now.time < limit → (walk_after_step w h).now.time < bound
-    step-below w (Goes now outputs kind) times early = let most = times.1 in omega arith
-    step-below w (Ends stop) times early = omega arith
-
     onward-below : (w : Walk Board) (stop : Option Stop) (late : Bool) → nat_le limit w.now.time ≡ late → w.now.time < bound
         → (onward_if next w stop late).now.time < bound
-    onward-below w (Some stop) late e below = below
-    onward-below w None true e below = below
-    onward-below w None false e below =
-        let early : w.now.time < limit = grind (arith, nat_tests) in step-below w (next w.now) (timely w.now) early
+    onward-below w stop late e below = search rules
 
     -- a walk stays below what is a step past its limit at least
     pub walk-below : (from : Moment Board) (n : ℕ) → from.time < bound → (walk next limit from n).now.time < bound
@@ -82,60 +66,20 @@ module _ {Board : Type 0} (ask : Questions Board) (held : ℕ → ℕ) (frames :
   abbrev pub closed : Walk Board → Walk Board
   closed w = closed_if w w.stop (nat_le limit w.now.time)
 
-  closed-ended : (w : Walk Board) (stop : Option Stop) (late : Bool) → has_ended limit (closed_if w stop late) ≡ has_ended limit w
-  closed-ended w (Some stop) late = refl
-  closed-ended w None true = refl
-  closed-ended w None false = refl
-
-  closed-going : (w : Walk Board) (stop : Option Stop) (late : Bool) → (is_some stop || late) ≡ false → closed_if w stop late ≡ w
-  closed-going w (Some stop) late h = not-both h
-  closed-going w None true h = not-both h
-  closed-going w None false h = refl
-
   -- a step from within the frame stays there, or passes its end
   same-frame : (before after : ℕ) → frame_ticks * frames ≤ before → before < limit → before ≤ after → after ≤ before + most_ticks
       → (before / frame_ticks == after / frame_ticks) ≡ not (nat_le limit after)
-  same-frame before after from early later short = choose (nat_le limit after) refl
-    where
-      here : before / frame_ticks ≡ frames
-      here = omega arith
-
-      choose : (late : Bool) → nat_le limit after ≡ late → (before / frame_ticks == after / frame_ticks) ≡ not late
-      choose true e = let past : after / frame_ticks ≡ suc frames = grind (arith, nat_tests) in grind (arith, nat_tests)
-      choose false e = let still : after / frame_ticks ≡ frames = grind (arith, nat_tests) in grind (arith, nat_tests)
-
-  step-closed : (w : Walk Board) (h : Next Board) → IsTimely w.now h → frame_ticks * frames ≤ w.now.time → w.now.time < limit
-      → closed (walk_after_step w h) ≡ walk_after_step w (next_with_inputs ask held w.now.time h)
-  step-closed w (Goes now outputs kind) times from early =
-      choose (nat_le limit now.time)
-      ∙ ap (λ same. record { now = if same then now else moment_with_inputs ask held now; outputs = w.outputs ++ outputs; stop = None })
-      (sym (same-frame w.now.time now.time from early (let least = times.0 in omega arith) times.1))
-    where
-      choose : (late : Bool)
-          → closed_if (record { now = now; outputs = w.outputs ++ outputs; stop = None }) None late
-          ≡ record { now = if not late then now else moment_with_inputs ask held now; outputs = w.outputs ++ outputs; stop = None }
-      choose true = refl
-      choose false = refl
-  step-closed w (Ends stop) times from early = refl
+  same-frame before after from early later short = search rules
 
   -- a step more of the closed walk, by whether it has ended
   onward-closed : (w : Walk Board) (ended : Bool) → has_ended limit w ≡ ended → (ended ≡ false → frame_ticks * frames ≤ w.now.time)
       → closed (walk_onward plain limit w) ≡ walk_onward play limit (closed w)
-  onward-closed w true e from =
-      ap closed (ended-stays plain limit w e)
-      ∙ sym (ended-stays play limit (closed w) (closed-ended w w.stop (nat_le limit w.now.time) ∙ e))
-  onward-closed w false e from =
-      ap closed (going-steps plain limit w e)
-      ∙ step-closed w (plain w.now) (step-timely ask w.now) (from refl) (going-is-early limit w e)
-      ∙ sym (going-steps play limit w e)
-      ∙ ap (walk_onward play limit) (sym (closed-going w w.stop (nat_le limit w.now.time) e))
+  onward-closed w ended e from = search rules
 
   -- a frame's walk of plain steps, closed, is the walk of the run
   pub walk-closed : (from : Moment Board) (n : ℕ) → frame_ticks * frames ≤ from.time → from.time < limit
       → closed (walk plain limit from n) ≡ walk play limit from n
-  walk-closed from zero begins early =
-      let not_late : nat_le limit from.time ≡ false = grind (arith, nat_tests) in
-      closed-going (walk_at_start from) None (nat_le limit from.time) not_late
+  walk-closed from zero begins early = search rules
   walk-closed from (suc n) begins early =
       let w = walk plain limit from n in
       onward-closed w (has_ended limit w) refl
@@ -145,15 +89,7 @@ module _ {Board : Type 0} (ask : Questions Board) (held : ℕ → ℕ) (frames :
   -- what a frame adds to a run is that walk
   with-closed : (before w : Walk Board) (stop : Option Stop) → w.stop ≡ stop → has_ended limit w ≡ true
       → with_frame ask held before w stop ≡ joined play limit before (closed w)
-  with-closed before w (Some stop) s ended =
-      ap (λ stop. record { now = w.now; outputs = before.outputs ++ w.outputs; stop = stop }) (sym s)
-      ∙ ap (λ stop. joined play limit before (closed_if w stop (nat_le limit w.now.time))) (sym s)
-  with-closed before w None s ended =
-      let reached = open-is-late limit w ended s in
-      let late : nat_le limit w.now.time ≡ true = grind (arith, nat_tests) in
-      ap (λ stop. record { now = moment_with_inputs ask held w.now; outputs = before.outputs ++ w.outputs; stop = stop }) (sym s)
-      ∙ ap (λ late. joined play limit before (closed_if w None late)) (sym late)
-      ∙ ap (λ stop. joined play limit before (closed_if w stop (nat_le limit w.now.time))) (sym s)
+  with-closed before w stop s ended = search rules
 
 -- ---- frame by frame
 
@@ -170,16 +106,14 @@ module _ {Board : Type 0} (ask : Questions Board) (held : ℕ → ℕ) (board : 
   ended-is-run frames n ended = (runs-end ask (record { frames = frames; held = held }) board n).1 ended
 
   run-is-whole : (frames : ℕ) → walk_to (play_step ask held) (frame_ticks * frames) power ≡ run frames
-  run-is-whole frames =
-      ended-is-run frames (frame_ticks * frames) (walk-to-ends (play_step ask held) (frame_ticks * frames) (play-timely ask held) power)
+  run-is-whole frames = grind (arith, ended-is-run, play-timely, walk-to-ends)
 
   frame-played : (frames : ℕ) (stop : Option Stop) → (run frames).stop ≡ stop
       → next_frame ask held (suc frames) (run frames) stop ≡ run (suc frames)
   frame-played frames (Some stop) s =
       let play = play_step ask held in
       let on = on-the-way play (frame_ticks * frames) (frame_ticks * suc frames) power (frame_steps * frames) (omega arith) in
-      on.1 ∙ ended-is-run (suc frames) on.0
-      (ap (has_ended (frame_ticks * suc frames)) (sym on.1) ∙ stopped-has-ended (frame_ticks * suc frames) (run frames) stop s)
+      grind (arith, ended-is-run, stopped-has-ended)
   frame-played frames None s =
       let play = play_step ask held in
       let limit = frame_ticks * suc frames in

@@ -1,25 +1,21 @@
 -- What every run keeps: a fact of the time, of what was given out so far and of the board, which no write, output, acceptance,
 -- reset or held input changes, and which the events of each moment carry on to the next.
-use Rattle.std.proofs.Common.{fold}
-use Rattle.std.proofs.Common.{◌≡◌, ◌≢◌, ℕ, zero, suc, ◌+◌, ◌-◌, ◌*◌, ◌/◌, ◌%◌, ◌==◌, if◌then◌else◌, Option, None, Some, Bool, true, false}
-use Rattle.std.proofs.Common.{nat_le, ◌&&◌, List, [], ◌∷◌, ◌++◌, refl, sym, subst, arith}
+use Rattle.std.proofs.lemmas.Grind.{common_steps}
+use Rattle.std.proofs.Common.{fold, ◌≡◌, ◌≢◌, ℕ, zero, suc, ◌+◌, ◌-◌, ◌/◌, ◌%◌, ◌==◌, if◌then◌else◌, Option, Bool, true, false, nat_le}
+use Rattle.std.proofs.Common.{◌&&◌, List, [], ◌∷◌, ◌++◌, refl, arith, rules}
 use Rattle.std.proofs.lemmas.Bool.Decides.{nat_tests}
 use Rattle.std.proofs.lemmas.List.{append-nil}
 use Rattle.pac_cpu.specs.Action.{Action, Write as Written, Output as Sent}
 use Rattle.pac_cpu.specs.declared.once.StepKind.{StepKind}
-use Rattle.pac_cpu.specs.declared.once.StepKind.TheVariants.{Ran, Halted, Accepted}
 use Rattle.pac_cpu.specs.declared.once.Stop.{Stop}
-use Rattle.pac_cpu.specs.Step.{CpuStep, Steps, Stops, cpu_step}
-use Rattle.pac_map.specs.Entry.{Entry, Write, Vector, Sample, Line, Blank, Accept, Hold}
+use Rattle.pac_cpu.specs.Step.{CpuStep, cpu_step}
+use Rattle.pac_map.specs.Entry.{Entry, Write, Vector, Sample, Line, Blank}
 use Rattle.pac_map.specs.Place.{write_place}
 use Rattle.pac_board_model.specs.Output.{Output, Sound, Show}
-use Rattle.pac_board_model.specs.Step.{Questions, Moment, StepProgress, Next, Goes, Ends, put_actions, put_kind, at_moment}
-use Rattle.pac_board_model.specs.Step.{through, progress_after_cpu}
-use Rattle.pac_board_model.specs.Step.{surroundings, after_cpu_step, step, note, give, sample_event, line_event, reset_event}
-use Rattle.pac_board_model.specs.Step.{watchdog_event, blank_event}
+use Rattle.pac_board_model.specs.Step.{Questions, Moment, StepProgress, Next, Goes, Ends, put_actions, put_kind, at_moment, through}
+use Rattle.pac_board_model.specs.Step.{surroundings, after_cpu_step, step, note, give, sample_event, line_event, reset_event, blank_event}
 use Rattle.pac_board_model.specs.Step.{scan_line, scan_frame, sample_ticks, line_ticks, frame_ticks, hidden_lines}
-use Rattle.pac_board_model.specs.Trace.{Play, moment_with_inputs, next_with_inputs, play_step, power_on_moment, run_at}
-use Rattle.pac_board_model.specs.Trace.{frames_gone, resumed_start, resumed_end}
+use Rattle.pac_board_model.specs.Trace.{Play, next_with_inputs, play_step, run_at}
 use Rattle.pac_board_model.specs.TraceLaws.{resumed_at}
 use Rattle.pac_board_model.specs.Walk.{Walk, walk, onward_if, walk_after_step}
 
@@ -49,39 +45,17 @@ ends_line moment = moment % line_ticks == 0 && nat_le hidden_lines (scan_line mo
 module _ {Board : Type 0} (ask : Questions Board) (Holds : StepProgress Board → Type 0) (moment : ℕ) (met : StepProgress Board) where
   pub sampled-holds : (moment % sample_ticks ≡ 0 → Holds (with_sample ask moment met)) → (moment % sample_ticks ≢ 0 → Holds met)
       → Holds (sample_event ask moment met)
-  sampled-holds at_one elsewhere = choose (moment % sample_ticks == 0) refl
-    where
-      choose : (b : Bool) → (moment % sample_ticks == 0) ≡ b → Holds (if b then with_sample ask moment met else met)
-      choose true e = at_one (grind (arith, nat_tests))
-      choose false e = elsewhere (grind (arith, nat_tests))
+  sampled-holds at_one elsewhere = grind (arith, nat_tests)
 
   pub lined-holds : (ends_line moment ≡ true → Holds (with_line ask moment met)) → (ends_line moment ≡ false → Holds met)
       → Holds (line_event ask moment met)
-  lined-holds at_one elsewhere = choose (ends_line moment) refl
-    where
-      choose : (b : Bool) → ends_line moment ≡ b → Holds (if b then with_line ask moment met else met)
-      choose true e = at_one e
-      choose false e = elsewhere e
-
-  watched-holds : Holds (reset_event ask met) → Holds met → Holds (watchdog_event ask met)
-  watched-holds due quiet = choose (ask.is_due met.board)
-    where
-      choose : (b : Bool) → Holds (if b then reset_event ask met else met)
-      choose true = due
-      choose false = quiet
+  lined-holds at_one elsewhere = grind (arith, common_steps)
 
 module _ {Board : Type 0} (ask : Questions Board) (Holds : StepProgress Board → Type 0) (moment : ℕ) (met : StepProgress Board) where
   pub blanked-holds : (moment % frame_ticks ≡ 0 → Holds (with_picture ask moment met)
       × Holds (reset_event ask (with_picture ask moment met)))
       → (moment % frame_ticks ≢ 0 → Holds met) → Holds (blank_event ask moment met)
-  blanked-holds at_one elsewhere = choose (moment % frame_ticks == 0) refl
-    where
-      choose : (b : Bool) → (moment % frame_ticks == 0) ≡ b
-          → Holds (if b then watchdog_event ask (with_picture ask moment met) else met)
-      choose true e =
-          let both = at_one (grind (arith, nat_tests)) in
-          watched-holds ask Holds moment (with_picture ask moment met) both.1 both.0
-      choose false e = elsewhere (grind (arith, nat_tests))
+  blanked-holds at_one elsewhere = grind (arith, common_steps)
 
 -- ---- a run
 
@@ -93,8 +67,7 @@ module _ {Board : Type 0} (ask : Questions Board) (Told : ℕ → List Output �
     → Told moment (given ++ (at_moment ask moment met).outputs) (at_moment ask moment met).board) where
   port-told : (time : ℕ) (given : List Output) (board : Board) (byte : ℕ) (wired : Bool) → Told time given board
       → Told time given (fold ask.put board (if wired then Vector byte ∷ [] else []))
-  port-told time given board byte true told = quiet time given board (Vector byte) refl told
-  port-told time given board byte false told = told
+  port-told time given board byte wired told = grind (arith, common_steps)
 
   actions-told : (time : ℕ) (given : List Output) (board : Board) (actions : List Action) → Told time given board
       → Told time given (put_actions ask board actions)
@@ -108,14 +81,11 @@ module _ {Board : Type 0} (ask : Questions Board) (Told : ℕ → List Output �
 
   kind-told : (time : ℕ) (given : List Output) (board : Board) (kind : StepKind) → Told time given board
       → Told time given (put_kind ask board kind)
-  kind-told time given board Accepted told = quiet time given board Accept refl told
-  kind-told time given board Halted told = told
-  kind-told time given board (Ran instruction) told = told
+  kind-told time given board kind told = grind (arith, common_steps)
 
   through-told : (time ticks : ℕ) (given : List Output) (met : StepProgress Board) → Told time (given ++ met.outputs) met.board
       → Told (time + ticks) (given ++ (through ask time ticks met).outputs) (through ask time ticks met).board
-  through-told time zero given met told =
-      let same : time ≡ time + 0 = omega arith in subst (λ t. Told t (given ++ met.outputs) met.board) same told
+  through-told time zero given met told = grind (arith, common_steps)
   through-told time (suc ticks) given met told =
       let next : time + suc ticks ≡ suc (time + ticks) = omega arith in
       moves (time + ticks) (time + suc ticks) given (through ask time ticks met) next (through-told time ticks given met told)
@@ -128,11 +98,7 @@ module _ {Board : Type 0} (ask : Questions Board) (Told : ℕ → List Output �
   cpu-step-told : (now : Moment Board) (given : List Output) (h : CpuStep) → Told now.time given now.board
       → NextTold given (after_cpu_step ask now h)
   unfolding NextTold
-  cpu-step-told now given (Steps regs actions ticks kind) told =
-      through-told now.time ticks given (progress_after_cpu ask now.board regs actions kind)
-      (subst (λ outputs. Told now.time outputs (put_actions ask (put_kind ask now.board kind) actions)) (sym (append-nil given))
-      (actions-told now.time given (put_kind ask now.board kind) actions (kind-told now.time given now.board kind told)))
-  cpu-step-told now given (Stops stop) told = tt
+  cpu-step-told now given h told = search (rules, actions-told, append-nil, kind-told, through-told)
 
   -- so a step goes on to where it is kept, or stops
   pub step-told-then : {C : Type 0} (now : Moment Board) (given : List Output) → Told now.time given now.board
@@ -151,12 +117,7 @@ module _ {Board : Type 0} (ask : Questions Board) (Told : ℕ → List Output �
   played-told : (held : ℕ → ℕ) (time : ℕ) (given : List Output) (h : Next Board) → NextTold given h
       → NextTold given (next_with_inputs ask held time h)
   unfolding NextTold
-  played-told held time given (Goes now outputs kind) told = choose (time / frame_ticks == now.time / frame_ticks)
-    where
-      choose : (same : Bool) → NextTold given (Goes (if same then now else moment_with_inputs ask held now) outputs kind)
-      choose true = told
-      choose false = quiet now.time (given ++ outputs) now.board (Hold (held (now.time / frame_ticks + 1))) refl told
-  played-told held time given (Ends stop) told = tt
+  played-told held time given h told = grind (arith, NextTold)
 
   WalkTold : Walk Board → Type 0
   WalkTold w = Told w.now.time w.outputs w.now.board
@@ -169,12 +130,7 @@ module _ {Board : Type 0} (ask : Questions Board) (Told : ℕ → List Output �
   onward-told : (held : ℕ → ℕ) (w : Walk Board) (stop : Option Stop) (late : Bool) → WalkTold w
       → WalkTold (onward_if (play_step ask held) w stop late)
   unfolding WalkTold
-  onward-told held w (Some stop) late told = told
-  onward-told held w None true told = told
-  onward-told held w None false told =
-      let part = cpu_step (surroundings ask w.now.board) w.now.regs (ask.request w.now.board) in
-      step-told w (play_step ask held w.now)
-      (played-told held w.now.time w.outputs (step ask w.now) (cpu-step-told w.now w.outputs part told)) told
+  onward-told held w stop late told = search (rules, cpu-step-told, played-told, step-told)
 
   walk-kept : (held : ℕ → ℕ) (limit : ℕ) (from : Moment Board) (n : ℕ) → Told from.time [] from.board
       → WalkTold (walk (play_step ask held) limit from n)
@@ -194,11 +150,7 @@ module _ {Board : Type 0} (ask : Questions Board) (Told : ℕ → List Output �
   -- a walk without a script keeps it too
   plain-onward-told : (w : Walk Board) (stop : Option Stop) (late : Bool) → WalkTold w → WalkTold (onward_if (step ask) w stop late)
   unfolding WalkTold
-  plain-onward-told w (Some stop) late told = told
-  plain-onward-told w None true told = told
-  plain-onward-told w None false told =
-      let part = cpu_step (surroundings ask w.now.board) w.now.regs (ask.request w.now.board) in
-      step-told w (step ask w.now) (cpu-step-told w.now w.outputs part told) told
+  plain-onward-told w stop late told = search (rules, cpu-step-told, step-told)
 
   plain-walk-kept : (limit : ℕ) (from : Moment Board) (n : ℕ) → Told from.time [] from.board → WalkTold (walk (step ask) limit from n)
   unfolding WalkTold
@@ -217,14 +169,9 @@ module _ {Board : Type 0} (ask : Questions Board) (Told : ℕ → List Output �
   pub run-told : (play : Play) (board : Board) (index : ℕ) → Told 0 [] board
       → let run = run_at ask play board index in
       Told run.now.time run.outputs run.now.board
-  run-told play board index told =
-      walk-told play.held (frame_ticks * play.frames) (power_on_moment (ask.put board (Hold (play.held 1)))) index
-      (quiet 0 [] board (Hold (play.held 1)) refl told)
+  run-told play board index told = search (rules, walk-told)
 
   pub resumed-told : (play : Play) (from : Moment Board) (index : ℕ) → Told from.time [] from.board
       → let run = resumed_at ask play from index in
       Told run.now.time run.outputs run.now.board
-  resumed-told play from index told =
-      let gone = frames_gone from in
-      walk-told (λ frame. play.held (frame - gone)) (resumed_end play gone) (resumed_start ask play from) index
-      (quiet from.time [] from.board (Hold (play.held 1)) refl told)
+  resumed-told play from index told = search (rules, walk-told)

@@ -1,8 +1,7 @@
 -- The board that a history leaves tells all that the history does.
-use Rattle.std.proofs.Common.{sym, ap, ◌∙◌, slice_index}
+use Rattle.std.proofs.Common.{ap, ◌∙◌, slice_index, arith}
 use Rattle.pac_map.specs.Latched.{is_latch_bit_set, interrupt_request}
 use Rattle.pac_map.specs.Latched as latch
-use Rattle.pac_map.specs.Contents.{read_of}
 use Rattle.pac_map.specs.View as view
 use Rattle.pac_board_model.specs.Laws.{ViewAnswers, ViewTells}
 use Rattle.pac_board_model.proofs.Views.{read-viewed, tile-viewed, colour-viewed, work-viewed, held-viewed}
@@ -13,9 +12,7 @@ use Rattle.pac_board_model.proofs.Voices.{voice-viewed}
 use Rattle.pac_board_model.proofs.Lines.{lines-viewed}
 
 pub view-answers : ViewAnswers
-view-answers set start entries address fit =
-    read-viewed set.program start.memory entries address fit.memory
-    ∙ ap (λ memory. read_of set.program memory address) (sym (memory-viewed set start entries))
+view-answers set start entries address fit = grind (arith, memory-viewed, read-viewed)
 
 pub view-tells : ViewTells
 view-tells set start entries fit =

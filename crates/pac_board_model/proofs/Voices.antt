@@ -1,8 +1,7 @@
 -- The voices of the board that a history leaves stand where the sums over its samples say.
-use Rattle.std.proofs.Common.{◌≡◌, ℕ, ◌+◌, ◌%◌, ◌^◌, ◌<◌, Bool, true, false, cond, List, [], ◌∷◌, refl, ◌∙◌, arith}
+use Rattle.std.proofs.Common.{◌≡◌, ℕ, ◌+◌, ◌%◌, ◌^◌, ◌<◌, Bool, cond, List, [], ◌∷◌, ◌∙◌, arith, rules}
 use Rattle.pac_map.specs.RomParts.{Parts}
 use Rattle.pac_wave.specs.declared.Voice.{Voice}
-use Rattle.pac_wave.specs.declared.Voice.TheVariants.{First, Second, Third}
 use Rattle.pac_wave.specs.Wave.{Accumulators, Fit20Bits, accumulator, frequency, accumulators_after}
 use Rattle.pac_map.specs.Entry.{Entry, Sample}
 use Rattle.pac_board_model.specs.BoardView.{BoardView, IsBoard}
@@ -15,21 +14,15 @@ use Rattle.pac_board_model.proofs.Memories.{registers-kept, sound-kept}
 after-voice : (registers : List ℕ) (on : Bool) (all : Accumulators) (voice : Voice)
     → accumulator (accumulators_after registers on all) voice
     ≡ cond on ((accumulator all voice + frequency registers voice) % 2 ^ 20) (accumulator all voice)
-after-voice registers true all First = refl
-after-voice registers true all Second = refl
-after-voice registers true all Third = refl
-after-voice registers false all voice = refl
+after-voice registers on all voice = search rules
 
 within : (all : Accumulators) (voice : Voice) → Fit20Bits all → accumulator all voice < 2 ^ 20
-within all First fit = fit.first
-within all Second fit = fit.second
-within all Third fit = fit.third
+within all voice fit = search rules
 
 -- one sample more
 one-more : (on : Bool) (now start grown added : ℕ) → now ≡ (start + grown) % 2 ^ 20
     → cond on ((now + added) % 2 ^ 20) now ≡ (start + (grown + cond on added 0)) % 2 ^ 20
-one-more true now start grown added same = omega arith
-one-more false now start grown added same = omega arith
+one-more on now start grown added same = search rules
 
 pub voice-viewed : (set : Parts) (start : BoardView) (entries : List Entry) (voice : Voice) → IsBoard start
     → accumulator (board_after_entries set start entries).accumulators voice ≡ accumulator_at start entries voice

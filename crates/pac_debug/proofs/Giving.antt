@@ -1,6 +1,6 @@
 -- What lines give to a sink, whatever they ask: what was due, and what the run gives from one furthest index to the next.
-use Rattle.std.proofs.Common.{◌≡◌, ℕ, ◌+◌, ◌≤◌, Bool, true, false, Option, None, Some, Result, Ok, Err, max, List, [], ◌∷◌, ◌++◌, ◌⊎◌}
-use Rattle.std.proofs.Common.{refl, sym, ap, subst, ◌∙◌, append_assoc, append-nil, arith}
+use Rattle.std.proofs.Common.{◌≡◌, ℕ, ◌+◌, ◌≤◌, Bool, Option, None, Some, Result, Ok, Err, max, List, [], ◌∷◌, ◌++◌, ◌⊎◌}
+use Rattle.std.proofs.Common.{refl, sym, ap, ◌∙◌, append_assoc, append-nil, arith, rules}
 use mathlib.Core.Logic.{inl, inr}
 use Rattle.pac_board.specs.Output.{Output}
 use Rattle.pac_board.specs.SinksLaws.{Giving, Cut}
@@ -8,29 +8,21 @@ use Rattle.pac_board.specs.Sinks.{TookAll}
 use Rattle.pac_board.specs.State.{nothing_due, due_outputs_in}
 use Rattle.pac_board.proofs.Sinks.{took-both, cut-along, cut-after}
 use Rattle.pac_debug_text.specs.declared.command.Command.{Command}
-use Rattle.pac_debug_text.specs.declared.command.Command.TheVariants as commands
 use Rattle.pac_debug_text.specs.declared.command.NoCommand.{NoCommand}
-use Rattle.pac_debug_text.specs.declared.place.Ending.TheVariants as endings
-use Rattle.pac_debug_text.specs.declared.refusal.Refusal.TheVariants as refusals
 use Rattle.pac_debug_text.specs.Commands.{command_of}
-use Rattle.pac_debug_text.specs.Slots.{slot_index}
 use Rattle.pac_debug_session.specs.declared.motion.Motion.{Motion}
 use Rattle.pac_debug_session.specs.MotionsLaws.{IsFinishRefused}
 use Rattle.pac_debug_session.specs.Running.{Setting, now_at, outputs_between}
 use Rattle.pac_debug_session.specs.RunningLaws.{outputs_from}
-use Rattle.pac_debug_session.specs.Session.{SessionValue, has_breakpoint}
+use Rattle.pac_debug_session.specs.Session.{SessionValue}
 use Rattle.pac_debug_session.specs.SessionLaws.{IsSessionOfferRefused, session_at_command, session_due_outputs}
 use Rattle.pac_debug_session.proofs.Forwards.{between-joined, between-self, joined-to-end}
 use Rattle.pac_debug.specs.declared.answer.Answer.{Answer}
-use Rattle.pac_debug.specs.declared.answer.Answer.TheVariants as answers
 use Rattle.pac_debug.specs.declared.line.CommandFault.{CommandFault}
 use Rattle.pac_debug.specs.declared.line.CommandFault.TheVariants as faults
 use Rattle.pac_debug.specs.Obeying.{AnswersBack, AnswersReturn, SetsBreakpoint, Stays, IsCommandPerformed, IsCommandObeyed}
-use Rattle.pac_debug.specs.ObeyingLaws.{IsCommandDone}
-use Rattle.pac_debug.specs.ObeyingLaws.{IsCommandRefused}
-use Rattle.pac_debug.specs.Obeying.{session_without_due, kept_at}
-use Rattle.pac_debug.specs.ObeyingLaws.{Scene, Asks, ObeysLines}
-use Rattle.pac_debug.specs.Obeying.{motion_of}
+use Rattle.pac_debug.specs.ObeyingLaws.{IsCommandDone, IsCommandRefused, Scene, Asks, ObeysLines}
+use Rattle.pac_debug.specs.Obeying.{session_without_due}
 use Rattle.pac_debug.specs.WatchedLaws.{IsFurther, GaveAll, GaveSome, outputs_until, outputs_to_give}
 use Rattle.pac_debug.specs.WatchedProofs.{LinesGive}
 
@@ -44,44 +36,24 @@ record IsStill (old new : SessionValue) : Type 0 where
 
 like : (old new other : SessionValue) → new ≡ other → other.setting ≡ old.setting → other.furthest ≡ old.furthest → other.due ≡ old.due
     → IsStill old new
-like old new other is setting furthest due =
-    record {
-      setting = ap (λ (s : SessionValue). s.setting) is ∙ setting;
-      furthest = ap (λ (s : SessionValue). s.furthest) is ∙ furthest;
-      due = ap (λ (s : SessionValue). s.due) is ∙ due;
-    }
+like old new other is setting furthest due = search rules
 
 still : (old new : SessionValue) → new ≡ old → IsStill old new
 still old new same = like old new old same refl refl refl
 
 went-back : (old : SessionValue) (count : ℕ) (answer : Answer) (new : SessionValue) → AnswersBack old count answer new → IsStill old new
-went-back old count (answers.Moved endings.Back) new went = like old new _ went.session refl refl refl
-went-back old count (answers.Refused (refusals.TooFarBack oldest)) new went = still old new went.session
-went-back old count other new went = absurd went
+went-back old count answer new went = search rules
 
 returned : (old : SessionValue) (kept : Option ℕ) (answer : Answer) (new : SessionValue) → AnswersReturn old kept answer new →
     IsStill old new
-returned old (Some index) answer new came = like old new _ came.1 refl refl refl
-returned old None answer new came = still old new came.1
+returned old kept answer new came = search rules
 
 set-there : (old : SessionValue) (address : ℕ) (is_set : Bool) (answer : Answer) (new : SessionValue)
     → SetsBreakpoint old address is_set answer new → IsStill old new
-set-there old address true answer new done = still old new done.1
-set-there old address false answers.Done new done = like old new _ done.1 refl refl refl
-set-there old address false (answers.Refused refusals.NoRoom) new done = still old new done.1
-set-there old address false other new done = absurd done
+set-there old address is_set answer new done = search rules
 
 stays : (old : SessionValue) (command : Command) (answer : Answer) (new : SessionValue) → Stays old command answer new → IsStill old new
-stays old (commands.Back count) answer new done = went-back old count answer new done
-stays old (commands.Return slot) answer new done = returned old (kept_at old (slot_index slot)) answer new done
-stays old (commands.Keep slot) answer new done = like old new _ done.1 refl refl refl
-stays old (commands.Break at) answer new done = set-there old at (has_breakpoint old at) answer new done
-stays old (commands.Unbreak at) answer new done = like old new _ done.1 refl refl refl
-stays old commands.Regs answer new done = still old new done.1
-stays old (commands.Mem at count) answer new done = still old new done.1
-stays old (commands.Dis at count) answer new done = still old new done.1
-stays old (commands.History count) answer new done = still old new done.1
-stays old other answer new done = absurd done
+stays old command answer new done = grind (arith, like, returned, set-there, still, went-back)
 
 -- ---- a line with words
 
@@ -102,35 +74,15 @@ module _ {S : Type 0} (took : S → Output → S → Type 0) where
 
   done-still : (old : SessionValue) (sink : S) (new : SessionValue) (later : S) → old.due ≡ nothing_due → IsStill old new → later ≡ sink
       → HasDone old sink new later
-  done-still old sink new later none stayed same =
-      let far = stayed.furthest in
-      record {
-        setting = stayed.setting;
-        further = omega (arith, far);
-        due = stayed.due ∙ none;
-        sink_is =
-            subst (λ xs. TookAll took sink xs later) (sym (none-between old.setting old.furthest new.furthest far)) same;
-      }
+  done-still old sink new later none stayed same = grind (arith, none-between)
 
   performed : (old : SessionValue) (command : Command) (found : Option Motion) (sink : S) (answer : Answer) (new : SessionValue) (later : S)
       → old.due ≡ nothing_due → IsCommandPerformed took old command found sink answer new later → HasDone old sink new later
-  performed old command (Some motion) sink answer new later none moved =
-      let is = moved.travelled.session in
-      let far : new.furthest ≡ max old.furthest new.index = ap (λ (s : SessionValue). s.furthest) is in
-      record {
-        setting = ap (λ (s : SessionValue). s.setting) is;
-        further = omega (arith, far);
-        due = ap (λ (s : SessionValue). s.due) is;
-        sink_is = moved.travelled.sink_is;
-      }
-  performed old command None sink answer new later none done =
-      done-still old sink new later none (stays old command answer new done.0) done.1
+  performed old command found sink answer new later none moved = grind (arith, done-still, stays)
 
   pub obeyed : (old : SessionValue) (asked : Result Command NoCommand) (sink : S) (answer : Answer) (new : SessionValue) (later : S)
       → old.due ≡ nothing_due → IsCommandObeyed took old asked sink answer new later → HasDone old sink new later
-  obeyed old (Ok command) sink answer new later none done =
-      performed old command (motion_of command) sink answer new later none done
-  obeyed old (Err reason) sink answer new later none done = done-still old sink new later none (still old new done.1) done.2
+  obeyed old asked sink answer new later none done = grind (arith, done-still, performed, still)
 
   did-given : (old : SessionValue) (asked : Result Command NoCommand) (sink : S) (answer : Answer) (new : SessionValue) (later : S)
       → IsCommandDone took old asked sink answer new later → GaveAll took old sink new later
@@ -141,9 +93,7 @@ module _ {S : Type 0} (took : S → Output → S → Type 0) where
         further = record { setting = done.setting; furthest = done.further };
         taken = given;
         parts = sym (ap (λ xs. given ++ xs) (nothing-given new done.due) ∙ append-nil given);
-        sink_is =
-            took-both took (session_due_outputs old) (outputs_between old.setting old.furthest new.furthest) sink did.between later
-            did.offered done.sink_is;
+        sink_is = grind (arith, took-both);
       }
 
 -- ---- a refusal
@@ -151,50 +101,29 @@ module _ {S : Type 0} (took : S → Output → S → Type 0) where
 module _ {S : Type 0} (to : Giving S) where
   offer-refused : (old : SessionValue) (sink : S) (new : SessionValue) (later : S)
       → IsSessionOfferRefused to (session_at_command old) sink new later → GaveSome to old sink new later
-  offer-refused old sink new later refusal =
-      let is = refusal.session in
-      let far : new.furthest ≡ old.furthest = ap (λ (s : SessionValue). s.furthest) is in
-      let due = session_due_outputs old in
-      record {
-        further = record { setting = ap (λ (s : SessionValue). s.setting) is; furthest = omega (arith, far) };
-        cut =
-            cut-along (ap (λ xs. due ++ xs) (none-between old.setting old.furthest new.furthest far) ∙ append-nil due) refl refusal.cut;
-      }
+  offer-refused old sink new later refusal = grind (arith, cut-along, none-between)
 
   -- after a step that was refused the session is at its furthest index
   step-given : (old : SessionValue) (sink : S) (new : SessionValue) (later : S) (last : ℕ) → new.setting ≡ old.setting
       → new.furthest ≡ max old.furthest new.index → new.index ≡ last + 1 → old.furthest ≤ last
       → Cut to sink (session_due_outputs old ++ outputs_between old.setting old.furthest new.index) (session_due_outputs new) later
       → GaveSome to old sink new later
-  step-given old sink new later last same most index fresh cut =
-      let far : new.furthest ≡ new.index = omega arith in
-      record {
-        further = record { setting = same; furthest = omega arith };
-        cut = cut-along (ap (λ n. session_due_outputs old ++ outputs_between old.setting old.furthest n) far) refl cut;
-      }
+  step-given old sink new later last same most index fresh cut = search rules
 
   refused-given : (old : SessionValue) (asked : Result Command NoCommand) (sink : S) (new : SessionValue) (later : S)
       → IsCommandRefused to old asked sink new later → GaveSome to old sink new later
   refused-given old asked sink new later (inl refusal) = offer-refused old sink new later refusal
-  refused-given old asked sink new later (inr refusal) =
-      let gone = refusal.held_up.held_up in
-      step-given old sink new later gone.last (ap (λ (s : SessionValue). s.setting) gone.session)
-      (ap (λ (s : SessionValue). s.furthest) gone.session) gone.index gone.fresh
-      (cut-after (session_due_outputs old) sink refusal.between later refusal.offered gone.cut)
+  refused-given old asked sink new later (inr refusal) = grind (arith, cut-after, step-given)
 
   pub finish-given : (old : SessionValue) (sink : S) (new : SessionValue) (later : S)
       → IsSessionOfferRefused to (session_at_command old) sink new later ⊎ IsFinishRefused to old sink new later
       → GaveSome to old sink new later
-  finish-given old sink new later (inl gone) = offer-refused old sink new later gone
-  finish-given old sink new later (inr gone) =
-      step-given old sink new later gone.last (ap (λ (s : SessionValue). s.setting) gone.session)
-      (ap (λ (s : SessionValue). s.furthest) gone.session) gone.index gone.fresh gone.cut
+  finish-given old sink new later refusal = grind (arith, offer-refused, step-given)
 
 -- ---- one after another
 
 pub further-on : (old mid new : SessionValue) → IsFurther old mid → IsFurther mid new → IsFurther old new
-further-on old mid new first second =
-    record { setting = second.setting ∙ first.setting; furthest = omega (arith, first.furthest, second.furthest) }
+further-on old mid new first second = search rules
 
 -- what was given up to one moment, and what was to be given from there on
 given-on : (old mid new : SessionValue) (one : List Output) → IsFurther old mid → IsFurther mid new
@@ -213,23 +142,11 @@ given-on old mid new one first second parts =
 pub all-to-give : (old new : SessionValue) (taken : List Output) → IsFurther old new
     → outputs_until old new ≡ taken ++ session_due_outputs new
     → (taken ++ session_due_outputs new) ++ outputs_from new.setting new.furthest ≡ outputs_to_give old
-all-to-give old new taken further parts =
-    let setting = old.setting in
-    let given = outputs_between setting old.furthest new.furthest in
-    let rest = outputs_from setting new.furthest in
-    ap (λ (run : Setting). (taken ++ session_due_outputs new) ++ outputs_from run new.furthest) further.setting
-    ∙ ap (λ xs. xs ++ rest) (sym parts) ∙ append_assoc (session_due_outputs old) given rest
-    ∙ ap (λ xs. session_due_outputs old ++ xs) (joined-to-end setting old.furthest new.furthest further.furthest)
+all-to-give old new taken further parts = grind (arith, joined-to-end)
 
 module _ {S : Type 0} (to : Giving S) where
   none-given : (s : SessionValue) (sink : S) → GaveAll to.took s sink s sink
-  none-given s sink =
-      record {
-        further = record { setting = refl; furthest = omega arith };
-        taken = [];
-        parts = ap (λ xs. session_due_outputs s ++ xs) (between-self s.setting s.furthest) ∙ append-nil (session_due_outputs s);
-        sink_is = refl;
-      }
+  none-given s sink = grind (arith, between-self)
 
   pub some-after : (old mid new : SessionValue) (sink between later : S) → GaveAll to.took old sink mid between
       → GaveSome to mid between new later → GaveSome to old sink new later
@@ -255,32 +172,23 @@ module _ {S : Type 0} (to : Giving S) where
 
   gave-after : {A : Type 0} (result : Result A CommandFault) (old mid new : SessionValue) (sink between later : S)
       → GaveAll to.took old sink mid between → LinesGive to mid between result new later → LinesGive to old sink result new later
-  gave-after (Ok done) old mid new sink between later first second = all-after old mid new sink between later first second
   gave-after (Err faults.Refused) old mid new sink between later first second = some-after old mid new sink between later first second
-  gave-after (Err (faults.Text fault)) old mid new sink between later first second = all-after old mid new sink between later first second
+  gave-after result old mid new sink between later first second = all-after old mid new sink between later first second
 
   -- ---- lines
 
   module _ {W : Type 0} (wrote : W → List ℕ → W → Type 0) (balked : W → W → Type 0) where
     pub line-given : {A : Type 0} (found : Option (Result Command NoCommand)) (result : Result A CommandFault) (old new : Scene S W)
         → Asks to wrote balked found old result new → LinesGive to old.session old.sink result new.session new.sink
-    line-given None (Ok done) old new skipped =
-        subst (λ (s : SessionValue). GaveAll to.took old.session old.sink s new.sink) (sym skipped.0)
-        (subst (λ (sink : S). GaveAll to.took old.session old.sink old.session sink) (sym skipped.1) (none-given old.session old.sink))
+    line-given None (Ok done) old new skipped = grind (arith, none-given)
     line-given None (Err fault) old new skipped = absurd skipped
-    line-given (Some asked) (Ok done) old new told =
-        did-given to.took old.session asked old.sink told.answer new.session new.sink told.did
-    line-given (Some asked) (Err faults.Refused) old new told =
-        refused-given to old.session asked old.sink new.session new.sink told.0
-    line-given (Some asked) (Err (faults.Text fault)) old new told =
-        did-given to.took old.session asked old.sink told.answer new.session new.sink told.did
+    line-given (Some asked) (Err faults.Refused) old new told = refused-given to old.session asked old.sink new.session new.sink told.0
+    line-given (Some asked) result old new told = did-given to.took old.session asked old.sink told.answer new.session new.sink told.did
 
     pub lines-given : (lines : List (List ℕ)) (result : Result (Unit {0}) CommandFault) (old new : Scene S W)
         → ObeysLines to wrote balked lines old result new
         → LinesGive to old.session old.sink result new.session new.sink
-    lines-given [] (Ok done) old new same =
-        subst (λ (scene : Scene S W). GaveAll to.took old.session old.sink scene.session scene.sink) (sym same)
-        (none-given old.session old.sink)
+    lines-given [] (Ok done) old new same = grind (arith, none-given)
     lines-given [] (Err fault) old new obeyed = absurd obeyed
     lines-given (line ∷ more) (Ok done) old new obeyed =
         gave-after {A = Unit {0}} (Ok done) old.session obeyed.between.session new.session old.sink obeyed.between.sink new.sink

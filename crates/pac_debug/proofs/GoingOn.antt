@@ -1,20 +1,18 @@
 -- Lines that go on after one that wasn't answered: what the sink was offered, where they leave the session, and what the file took.
-use Rattle.std.proofs.Common.{◌≡◌, ℕ, ◌+◌, ◌<◌, true, Option, None, Some, Result, Ok, Err, List, [], ◌∷◌, ◌++◌, length}
-use Rattle.std.proofs.Common.{refl, sym, ap, subst, ◌∙◌, append_assoc, append-nil, arith}
+use Rattle.std.proofs.Common.{◌≡◌, ℕ, ◌<◌, true, Option, None, Some, Result, Ok, Err, List, [], ◌∷◌, ◌++◌, length, rules}
+use Rattle.std.proofs.Common.{refl, sym, ap, subst, ◌∙◌, append_assoc, arith}
 use Rattle.std.proofs.lemmas.List.{append_cancel_left}
 use mathlib.Core.Logic.{inl, inr}
 use Rattle.pac_board.specs.Output.{Output}
 use Rattle.pac_board.specs.SinksLaws.{Giving}
 use Rattle.pac_board.specs.Sinks.{TookAll}
 use Rattle.pac_out.specs.declared.counted.Counted.{Counted}
-use Rattle.pac_out.specs.CountedLaws.{Refuses}
 use Rattle.pac_debug_text.specs.declared.command.Command.{Command}
 use Rattle.pac_debug_text.specs.declared.command.NoCommand.{NoCommand}
 use Rattle.pac_debug_text.specs.Commands.{command_of}
 use Rattle.pac_debug_session.specs.declared.motion.Motion.{Motion}
-use Rattle.pac_debug_session.specs.declared.motion.Motion.TheVariants as motions
 use Rattle.pac_debug_session.specs.Motions.{rests}
-use Rattle.pac_debug_session.specs.Running.{Setting, outputs_between}
+use Rattle.pac_debug_session.specs.Running.{outputs_between}
 use Rattle.pac_debug_session.specs.Session.{SessionValue}
 use Rattle.pac_debug_session.specs.SessionLaws.{session_due_outputs}
 use Rattle.pac_debug_session.proofs.Forwards.{between-joined, between-self}
@@ -88,35 +86,10 @@ module _ {S : Type 0} (to : Giving S) where
     pub in_order : AreInOrder (outputs_until old new) offers (session_due_outputs new)
 
   gave-none : (s : SessionValue) (sink : S) → HasGiven s sink s sink
-  gave-none s sink =
-      record {
-        further = record { setting = refl; furthest = omega arith };
-        offers = [];
-        offered = refl;
-        in_order =
-            sym (ap (λ xs. session_due_outputs s ++ xs) (between-self s.setting s.furthest) ∙ append-nil (session_due_outputs s));
-      }
+  gave-none s sink = grind (arith, between-self)
 
   gave-by : {A : Type 0} (answer : Result A CommandFault) (old : SessionValue) (sink : S) (new : SessionValue) (later : S)
       → LinesGive to old sink answer new later → HasGiven old sink new later
-  gave-by (Ok done) old sink new later gave =
-      record {
-        further = gave.further;
-        offers = taken_offers gave.taken;
-        offered = all-offered gave.taken sink later gave.sink_is;
-        in_order =
-            subst (λ xs. AreInOrder xs (taken_offers gave.taken) (session_due_outputs new)) (sym gave.parts)
-            (order-taken gave.taken (session_due_outputs new));
-      }
-  gave-by (Err (faults.Text fault)) old sink new later gave =
-      record {
-        further = gave.further;
-        offers = taken_offers gave.taken;
-        offered = all-offered gave.taken sink later gave.sink_is;
-        in_order =
-            subst (λ xs. AreInOrder xs (taken_offers gave.taken) (session_due_outputs new)) (sym gave.parts)
-            (order-taken gave.taken (session_due_outputs new));
-      }
   gave-by (Err faults.Refused) old sink new later gave =
       let cut = gave.cut in
       let offers = taken_offers cut.taken ++ WasRefused cut.refuses.first ∷ [] in
@@ -127,10 +100,16 @@ module _ {S : Type 0} (to : Giving S) where
             offered-both (taken_offers cut.taken) (WasRefused cut.refuses.first ∷ []) sink cut.refuses.asked later
             (all-offered cut.taken sink cut.refuses.asked cut.refuses.before)
             (record { between = later; before = cut.refuses.refusal; after = refl });
+        in_order = grind (arith, order-refused);
+      }
+  gave-by answer old sink new later gave =
+      record {
+        further = gave.further;
+        offers = taken_offers gave.taken;
+        offered = all-offered gave.taken sink later gave.sink_is;
         in_order =
-            subst (λ xs. AreInOrder xs offers (session_due_outputs new)) (sym cut.parts)
-            (subst (λ due. AreInOrder (cut.taken ++ due) offers due) (sym cut.refuses.left_is)
-            (order-refused cut.taken cut.refuses.rest cut.refuses.first));
+            subst (λ xs. AreInOrder xs (taken_offers gave.taken) (session_due_outputs new)) (sym gave.parts)
+            (order-taken gave.taken (session_due_outputs new));
       }
 
   gave-on : (old mid new : SessionValue) (sink between later : S) → HasGiven old sink mid between → HasGiven mid between new later
@@ -139,28 +118,19 @@ module _ {S : Type 0} (to : Giving S) where
       let due = session_due_outputs old in
       let given = outputs_between old.setting old.furthest mid.furthest in
       let joined : outputs_until old mid ++ outputs_between mid.setting mid.furthest new.furthest ≡ outputs_until old new
-      = ap (λ (run : Setting). outputs_until old mid ++ outputs_between run mid.furthest new.furthest) first.further.setting
-      ∙ append_assoc due given (outputs_between old.setting mid.furthest new.furthest)
-      ∙ ap (λ xs. due ++ xs)
-      (between-joined old.setting old.furthest mid.furthest new.furthest first.further.furthest second.further.furthest) in
+      = grind (arith, between-joined) in
       record {
         further = further-on old mid new first.further second.further;
         offers = first.offers ++ second.offers;
         offered = offered-both first.offers second.offers sink between later first.offered second.offered;
-        in_order =
-            subst (λ xs. AreInOrder xs (first.offers ++ second.offers) (session_due_outputs new)) joined
-            (order-both (outputs_until old mid) (outputs_between mid.setting mid.furthest new.furthest) first.offers second.offers
-            (session_due_outputs mid) (session_due_outputs new) first.in_order second.in_order);
+        in_order = grind (arith, order-both);
       }
 
   -- ---- where a refused line leaves the session
 
   same-rest : (s : SessionValue) (motion : Motion) (from index : ℕ)
       → rests (session_without_due s) motion from index ≡ rests s motion from index
-  same-rest s (motions.Steps count) from index = refl
-  same-rest s motions.Continue from index = refl
-  same-rest s (motions.Frames count) from index = refl
-  same-rest s motions.ToEnd from index = refl
+  same-rest s motion from index = search rules
 
   held-after : (old : SessionValue) (asked : Result Command NoCommand) (sink : S) (new : SessionValue) (later : S)
       → IsHeldUp to (session_without_due old) asked sink new later → IsHeldUpAfter old asked new
@@ -172,35 +142,12 @@ module _ {S : Type 0} (to : Giving S) where
       let parts : before ++ outputs_between setting gone.last new.index ≡ before ++ (gone.of_last.0 ++ due)
       = between-joined setting old.furthest gone.last new.index gone.fresh (omega (arith, gone.index)) ∙ gone.cut.parts
       ∙ ap (λ xs. xs ++ due) (sym gone.of_last.1) ∙ append_assoc before gone.of_last.0 due in
-      record {
-        command = held.command;
-        asked_is = held.asked_is;
-        motion = held.motion;
-        motion_is = held.motion_is;
-        last = gone.last;
-        index = gone.index;
-        fresh = gone.fresh;
-        restless = λ earlier from less. sym (same-rest old held.motion old.index earlier) ∙ gone.restless earlier from less;
-        session = gone.session;
-        due = record {
-          taken = gone.of_last.0;
-          parts = append_cancel_left before (outputs_between setting gone.last new.index) (gone.of_last.0 ++ due) parts;
-          some_due = some-due due gone.cut.refuses.first gone.cut.refuses.rest gone.cut.refuses.left_is;
-        };
-      }
+      grind (arith, append_cancel_left, same-rest, some-due)
 
   pub held-at : (found : Option (Result Command NoCommand)) (old : SessionValue) (sink : S) (new : SessionValue) (later : S)
       → RefusedOf to found old sink new later → IsHeldUpAt found old new
   held-at None old sink new later refusal = absurd refusal
-  held-at (Some asked) old sink new later (inl refusal) =
-      inl (record {
-        session = refusal.session;
-        due = record {
-          taken = refusal.cut.taken;
-          parts = refusal.cut.parts;
-          some_due = some-due (session_due_outputs new) refusal.cut.refuses.first refusal.cut.refuses.rest refusal.cut.refuses.left_is;
-        };
-      })
+  held-at (Some asked) old sink new later (inl refusal) = search rules
   held-at (Some asked) old sink new later (inr refusal) = inr (held-after old asked refusal.between new later refusal.held_up)
 
   -- ---- lines, one after another
@@ -214,40 +161,20 @@ module _ {S : Type 0} (to : Giving S) where
     stays-closed : (lines : List (List ℕ)) (answers : List LineAnswer) (old new : Scene S W)
         → AnswersEach to wrote balked lines answers old new → old.text.failed ≡ true → StaysClosed lines answers old.text new.text
     stays-closed [] [] old new same failed = record { same = ap (λ (scene : Scene S W). scene.text) same; none = tt }
-    stays-closed [] (answer ∷ answers) old new all failed = absurd all
-    stays-closed (line ∷ lines) [] old new all failed = absurd all
     stays-closed (line ∷ lines) (Ok done ∷ answers) old new all failed =
         let mid = all.between in
         let here = line-told to wrote balked done (command_of line) old mid all.before in
         let kept = (here.takes.later failed).1 in
-        let rest = stays-closed lines answers mid new all.after (ap (λ (file : Counted W). file.failed) kept ∙ failed) in
-        record {
-          same = rest.same ∙ kept;
-          none = (
-            here.later failed,
-            subst (λ (file : Counted W). NoneIsTold lines answers file.count) kept rest.none,
-          );
-        }
+        let rest = stays-closed lines answers mid new all.after (ap (λ (file : Counted W). file.failed) kept ∙ failed) in search rules
     stays-closed (line ∷ lines) (Err faults.Refused ∷ answers) old new all failed =
         let mid = all.between in
         let kept = (line-refused to wrote balked (command_of line) old mid all.before).1 in
-        let rest = stays-closed lines answers mid new all.after (ap (λ (file : Counted W). file.failed) kept ∙ failed) in
-        record {
-          same = rest.same ∙ kept;
-          none = subst (λ (file : Counted W). NoneIsTold lines answers file.count) kept rest.none;
-        }
+        let rest = stays-closed lines answers mid new all.after (ap (λ (file : Counted W). file.failed) kept ∙ failed) in search rules
     stays-closed (line ∷ lines) (Err (faults.Text fault) ∷ answers) old new all failed =
-        let mid = all.between in
-        let here = line-untold to wrote balked (command_of line) fault old mid all.before in
+        let here = line-untold to wrote balked (command_of line) fault old all.between all.before in
         let kept = here.refuses.later failed in
-        let rest = stays-closed lines answers mid new all.after here.refuses.closed in
-        record {
-          same = rest.same ∙ kept;
-          none = (
-            here.refuses.told ∙ ap (λ (file : Counted W). file.count) kept,
-            subst (λ (file : Counted W). NoneIsTold lines answers file.count) kept rest.none,
-          );
-        }
+        let rest = stays-closed lines answers all.between new all.after here.refuses.closed in search rules
+    stays-closed lines answers old new all failed = absurd all
 
     -- one line, and then the others
     module _ (line : List ℕ) (lines : List (List ℕ)) (answers : List LineAnswer) (old mid new : Scene S W)
@@ -255,11 +182,7 @@ module _ {S : Type 0} (to : Giving S) where
       where
         given-in-all : (answer : LineAnswer) → Commands to wrote balked line old answer mid
             → HasGiven old.session old.sink new.session new.sink
-        given-in-all answer here =
-            gave-on old.session mid.session new.session old.sink mid.sink new.sink
-            (gave-by answer old.session old.sink mid.session mid.sink
-            (line-given to wrote balked (command_of line) answer old mid here))
-            (record { further = rest.further; offers = rest.offers; offered = rest.offered; in_order = rest.in_order })
+        given-in-all answer here = grind (arith, gave-by, gave-on, line-given)
 
         first-then : (answer : LineAnswer) → Commands to wrote balked line old answer mid
             → ComesTo to wrote balked (line ∷ lines) (answer ∷ answers) old new
@@ -284,13 +207,8 @@ module _ {S : Type 0} (to : Giving S) where
               offered = given.offered;
               in_order = given.in_order;
               texts = [] ∷ rest.texts;
-              left = record {
-                between = mid.session;
-                before = (held-at (command_of line) old.session old.sink mid.session mid.sink refusal.0, refl);
-                after = rest.left;
-              };
-              file =
-                  subst (λ (file : Counted W). GoesIntoFile wrote balked lines answers rest.texts file new.text) refusal.1 rest.file;
+              left = grind (arith, held-at);
+              file = subst (λ (file : Counted W). GoesIntoFile wrote balked lines answers rest.texts file new.text) refusal.1 rest.file;
             }
         first-then (Err (faults.Text fault)) here =
             let given = given-in-all (Err (faults.Text fault)) here in
@@ -303,30 +221,15 @@ module _ {S : Type 0} (to : Giving S) where
               in_order = given.in_order;
               texts = told.text ∷ rest.texts;
               left = record { between = mid.session; before = told.tells; after = rest.left };
-              file = (
-                subst (λ (file : Counted W). Refuses wrote balked old.text told.text fault file) (sym closed.same) told.refuses,
-                subst (λ count. NoneIsTold lines answers count) (sym told.refuses.told) closed.none,
-              );
+              file = search rules;
             }
 
     pub comes-to : (lines : List (List ℕ)) (answers : List LineAnswer) (old new : Scene S W)
         → AnswersEach to wrote balked lines answers old new → ComesTo to wrote balked lines answers old new
-    comes-to [] [] old new same =
-        let given = gave-none old.session old.sink in
-        subst (λ (scene : Scene S W). ComesTo to wrote balked [] [] old scene) (sym same)
-        (record {
-          further = given.further;
-          offers = given.offers;
-          offered = given.offered;
-          in_order = given.in_order;
-          texts = [];
-          left = refl;
-          file = refl;
-        })
-    comes-to [] (answer ∷ answers) old new all = absurd all
-    comes-to (line ∷ lines) [] old new all = absurd all
+    comes-to [] [] old new same = let given = gave-none old.session old.sink in search rules
     comes-to (line ∷ lines) (answer ∷ answers) old new all =
         first-then line lines answers old all.between new all.after (comes-to lines answers all.between new all.after) answer all.before
+    comes-to lines answers old new all = absurd all
 
 pub lines-go-on : {S W : Type 0} (to : Giving S) (wrote : W → List ℕ → W → Type 0) (balked : W → W → Type 0)
     → LinesGoOn to wrote balked
@@ -335,8 +238,7 @@ lines-go-on to wrote balked = comes-to to wrote balked
 -- ---- a text of lines
 
 end-after : (answers : List LineAnswer) (result : LineAnswer) → EndIn answers result → EndIn (Ok tt ∷ answers) result
-end-after [] result is = is
-end-after (answer ∷ more) result is = is
+end-after answers result is = search rules
 
 module _ {S W : Type 0} (to : Giving S) (wrote : W → List ℕ → W → Type 0) (balked : W → W → Type 0) where
   -- one more line before

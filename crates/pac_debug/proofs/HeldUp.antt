@@ -1,11 +1,11 @@
 -- A session that its sink held up: it told what those lines tell that give no more than the sink took.
+use Rattle.std.proofs.lemmas.Grind.{common_steps}
 use Rattle.std.proofs.Common.{◌≡◌, ℕ, ◌+◌, ◌<◌, ◌≤◌, nat_le, Bool, true, false, max, Option, None, Some, Result, Ok, List, [], ◌∷◌, ◌++◌}
-use Rattle.std.proofs.Common.{append-nil, length, ◌⊎◌, refl, sym, ap, subst, ◌∙◌, length-append, arith}
+use Rattle.std.proofs.Common.{append-nil, length, ◌⊎◌, refl, sym, ap, subst, ◌∙◌, length-append, arith, rules}
 use Rattle.std.proofs.lemmas.Bool.Decides.{nat_tests}
 use mathlib.Core.Logic.{inl, inr}
 use Rattle.pac_board.specs.Output.{Output}
 use Rattle.pac_board.specs.SinksLaws.{Giving}
-use Rattle.pac_board.proofs.Walks.{not-both}
 use Rattle.pac_board.specs.State.{nothing_due}
 use Rattle.pac_out.specs.declared.WriteFault.{WriteFault}
 use Rattle.pac_debug_text.specs.declared.command.NoCommand.{NoCommand}
@@ -22,20 +22,16 @@ use Rattle.pac_debug.specs.declared.answer.Answer.TheVariants as answers
 use Rattle.pac_debug.specs.Answers.{ending_of, answer_text}
 use Rattle.pac_debug.specs.ObeyingLaws.{Scene}
 use Rattle.pac_debug.specs.Obeying.{IsCommandPerformed, IsCommandObeyed, session_without_due}
-use Rattle.pac_debug.specs.Watched.{takes_all, TellsOfCommand, TellsAll}
-use Rattle.pac_debug.specs.WatchedLaws.{outputs_until, RefusedOf, RefusedAt, IsWatchRefused}
-use Rattle.pac_debug.specs.WatchedLaws.{IsWatchUntold}
-use Rattle.pac_debug.specs.Watched.{given_by, FirstGivesMore, ToldUpTo}
-use Rattle.pac_debug.proofs.Giving.{nothing-given, obeyed}
+use Rattle.pac_debug.specs.Watched.{takes_all, TellsOfCommand, TellsAll, given_by, FirstGivesMore, ToldUpTo}
+use Rattle.pac_debug.specs.WatchedLaws.{outputs_until, RefusedOf, RefusedAt, IsWatchRefused, IsWatchUntold}
+use Rattle.pac_debug.proofs.Giving.{nothing-given}
 use Rattle.pac_debug.proofs.Resting.{ComesToRest, comes-to-rest}
 
 -- ---- nothing is due after lines
 
 line-clears : (found : Option (Result Command NoCommand)) (old new : SessionValue) (text : List ℕ) → TellsOfCommand found old text new
     → old.due ≡ nothing_due → new.due ≡ nothing_due
-line-clears None old new text tells none = ap (λ (s : SessionValue). s.due) tells.1 ∙ none
-line-clears (Some asked) old new text tells none =
-    (obeyed takes_all (session_without_due old) asked tt tells.answer new tt refl tells.obeyed).due
+line-clears found old new text tells none = search rules
 
 lines-clear : (lines : List (List ℕ)) (old new : SessionValue) (text : List ℕ) → TellsAll lines old text new → old.due ≡ nothing_due
     → new.due ≡ nothing_due
@@ -48,9 +44,7 @@ lines-clear (line ∷ more) old new text tells none =
 
 line-setting : (found : Option (Result Command NoCommand)) (old new : SessionValue) (text : List ℕ) → TellsOfCommand found old text new
     → new.setting ≡ old.setting
-line-setting None old new text tells = ap (λ (s : SessionValue). s.setting) tells.1
-line-setting (Some asked) old new text tells =
-    (obeyed takes_all (session_without_due old) asked tt tells.answer new tt refl tells.obeyed).setting
+line-setting found old new text tells = search rules
 
 lines-setting : (lines : List (List ℕ)) (old new : SessionValue) (text : List ℕ) → TellsAll lines old text new → new.setting ≡ old.setting
 lines-setting [] old new text tells = ap (λ (s : SessionValue). s.setting) tells.1
@@ -80,10 +74,7 @@ none-past-all setting index =
 all-given : (setting : Setting) (old new : SessionValue) (taken : List Output) → old ≡ session_at_start setting 0
     → outputs_until old new ≡ taken ++ session_due_outputs new
     → length (run setting new.furthest).outputs ≡ length taken + length (session_due_outputs new)
-all-given setting old new taken fresh given =
-    let parts : (run setting new.furthest).outputs ≡ taken ++ session_due_outputs new
-    = ap (λ (s : SessionValue). outputs_until s new) (sym fresh) ∙ given in
-    ap length parts ∙ length-append taken (session_due_outputs new)
+all-given setting old new taken fresh given = grind (arith, common_steps)
 
 module _ {S : Type 0} (to : Giving S) (setting : Setting) (taken : List Output) (old new : SessionValue)
     (sink later : S) (clear : old.due ≡ nothing_due) (same : old.setting ≡ setting)
@@ -92,9 +83,8 @@ module _ {S : Type 0} (to : Giving S) (setting : Setting) (taken : List Output) 
   -- nothing was due that could be refused
   none-offered : {A : Type 0} → IsSessionOfferRefused to (session_at_command old) sink new later → A
   none-offered refusal =
-      let none = ap length (nothing-given old clear) in
       let parts = ap length refusal.cut.parts ∙ length-append refusal.cut.taken (session_due_outputs new) in
-      absurd (omega (arith, none, parts, some_due))
+      absurd (omega (arith, ap length (nothing-given old clear), parts, some_due))
 
   -- what was given before is what was taken, or less
   no-more : (more : List Output) → old.furthest ≤ new.furthest
@@ -104,23 +94,16 @@ module _ {S : Type 0} (to : Giving S) (setting : Setting) (taken : List Output) 
       let here : length (given_by old) ≡ length (run setting old.furthest).outputs
       = ap (λ (it : Setting). length (run it old.furthest).outputs) same in
       let between : length (outputs_between setting old.furthest new.furthest) ≡ length more + length (session_due_outputs new)
-      = ap (λ (it : Setting). length (outputs_between it old.furthest new.furthest)) (sym same)
-      ∙ ap length parts ∙ length-append more (session_due_outputs new) in
-      let all = more-given setting old.furthest new.furthest further in
-      omega (arith, here, between, all, given)
+      = grind (arith, common_steps) in
+      omega (arith, here, between, more-given setting old.furthest new.furthest further, given)
 
   -- the motion that was held up gives more
   module _ (motion : Motion) (between : S) (gone : IsTravelRefused to (session_without_due old) motion between new later) where
     stands : new.furthest ≡ new.index
-    stands =
-        let most : new.furthest ≡ max old.furthest new.index = ap (λ (s : SessionValue). s.furthest) gone.session in
-        omega (arith, most, gone.index, gone.fresh)
+    stands = search rules
 
     less-told : length (given_by old) ≤ length taken
-    less-told =
-        let far = stands in
-        no-more gone.cut.taken (omega (arith, far, gone.index, gone.fresh))
-        (ap (λ n. outputs_between old.setting old.furthest n) far ∙ gone.cut.parts)
+    less-told = grind (arith, no-more, stands)
 
     abbrev rest : ComesToRest (session_without_due old) motion
     rest = comes-to-rest (session_without_due old) motion
@@ -129,21 +112,16 @@ module _ {S : Type 0} (to : Giving S) (setting : Setting) (taken : List Output) 
     passes = choose (nat_le rest.new.index gone.last) refl
       where
         choose : (b : Bool) → nat_le rest.new.index gone.last ≡ b → new.index ≤ rest.new.index
-        choose true e =
-            let least = rest.travelled.rest in
-            not-both (sym least.here ∙ gone.restless rest.new.index least.after (grind (arith, nat_tests)))
-        choose false e =
-            let past : gone.last < rest.new.index = grind (arith, nat_tests) in omega (arith, past, gone.index)
+        choose true e = search rules
+        choose false e = let past : gone.last < rest.new.index = grind (arith, nat_tests) in omega (arith, past, gone.index)
 
     gives-more : length taken < length (given_by rest.new)
     gives-more =
         let is = rest.travelled.session in
-        let far = stands in
-        let past = passes in
         let most : rest.new.furthest ≡ max old.furthest rest.new.index = ap (λ (s : SessionValue). s.furthest) is in
         let there : length (given_by rest.new) ≡ length (run setting rest.new.furthest).outputs
         = ap (λ (it : Setting). length (run it rest.new.furthest).outputs) (ap (λ (s : SessionValue). s.setting) is ∙ same) in
-        let all = more-given setting new.furthest rest.new.furthest (omega (arith, far, past, most)) in
+        let all = more-given setting new.furthest rest.new.furthest (omega (arith, stands, passes, most)) in
         omega (arith, there, all, given, some_due)
 
   -- ---- at a line, and on the way to the end
@@ -160,16 +138,14 @@ module _ {S : Type 0} (to : Giving S) (setting : Setting) (taken : List Output) 
   at-line (Some asked) (inl refusal) = none-offered refusal
   at-line (Some asked) (inr refusal) =
       let held = refusal.held_up in
-      let gone = held.held_up in
       let rest = comes-to-rest (session_without_due old) held.motion in
       let answer = answers.Moved (ending_of rest.why) in
       let moved : IsCommandPerformed takes_all (session_without_due old) held.command (Some held.motion) tt answer rest.new tt
       = record { why = rest.why; travelled = rest.travelled; answer_is = refl } in
       let done : IsCommandObeyed takes_all (session_without_due old) (Ok held.command) tt answer rest.new tt
-      = subst (λ found. IsCommandPerformed takes_all (session_without_due old) held.command found tt answer rest.new tt)
-      (sym held.motion_is) moved in
+      = search rules in
       record {
-        no_more = less-told held.motion refusal.between gone;
+        no_more = less-told held.motion refusal.between held.held_up;
         text = answer_text rest.new answer;
         next = rest.new;
         tells = record {
@@ -177,18 +153,13 @@ module _ {S : Type 0} (to : Giving S) (setting : Setting) (taken : List Output) 
           obeyed = subst (λ it. IsCommandObeyed takes_all (session_without_due old) it tt answer rest.new tt) (sym held.asked_is) done;
           text_is = refl;
         };
-        more = gives-more held.motion refusal.between gone;
+        more = gives-more held.motion refusal.between held.held_up;
       }
 
   at-end : IsSessionOfferRefused to (session_at_command old) sink new later ⊎ IsFinishRefused to old sink new later
       → length (given_by old) ≤ length taken
   at-end (inl refusal) = none-offered refusal
-  at-end (inr gone) =
-      let most : new.furthest ≡ max old.furthest new.index = ap (λ (s : SessionValue). s.furthest) gone.session in
-      let far : new.furthest ≡ new.index = omega (arith, most, gone.index, gone.fresh) in
-      no-more gone.cut.taken (omega (arith, far, gone.index, gone.fresh))
-      (ap (λ n. outputs_between old.setting old.furthest n) far
-      ∙ ap (λ xs. xs ++ outputs_between old.setting old.furthest new.index) (sym (nothing-given old clear)) ∙ gone.cut.parts)
+  at-end (inr gone) = grind (arith, no-more, nothing-given)
 
   -- the next line, if there is one, gives more
   record HeldUpIn (lines : List (List ℕ)) : Type 0 where
@@ -216,27 +187,13 @@ module _ {S W : Type 0} (to : Giving S) (wrote : W → List ℕ → W → Type 0
       let first = ap length cut.refuses.left_is in omega (arith, first) in
       let here =
       held-up-in to setting cut.taken held.between new.session held.sink_between new.sink clear held.gave.further.setting
-      (all-given setting old.session new.session cut.taken fresh cut.parts) left held.after held.refusal in
-      record {
-        before = held.before;
-        after = held.after;
-        parts = held.parts;
-        left = held.between;
-        tells = subst (λ (s : SessionValue). TellsAll held.before s held.told held.between) fresh held.lines;
-        no_more = here.no_more;
-        next = here.next;
-      }
+      (all-given setting old.session new.session cut.taken fresh cut.parts) left held.after held.refusal in search rules
 
 -- where a text was refused, the sink took what the lines till then give
 pub untold-gives : {S W : Type 0} (took : S → Output → S → Type 0) (wrote : W → List ℕ → W → Type 0) (balked : W → W → Type 0)
     (lines : List (List ℕ)) (old new : Scene S W) (fault : WriteFault) → old.session ≡ session_at_start old.session.setting 0
     → (halt : IsWatchUntold took wrote balked lines old fault new) → halt.in_all.taken ≡ given_by new.session
-untold-gives took wrote balked lines old new fault fresh halt =
-    let taken = halt.in_all.taken in
-    let parts : (run old.session.setting new.session.furthest).outputs ≡ taken ++ session_due_outputs new.session
-    = ap (λ (s : SessionValue). outputs_until s new.session) (sym fresh) ∙ halt.in_all.parts in
-    sym (parts ∙ ap (λ xs. taken ++ xs) (nothing-given new.session halt.none_due) ∙ append-nil taken)
-    ∙ ap (λ (it : Setting). (run it new.session.furthest).outputs) (sym halt.in_all.further.setting)
+untold-gives took wrote balked lines old new fault fresh halt = search rules
 
 -- where all lines were told, and the run came to its end, all outputs are enough
 pub all-told : (lines : List (List ℕ)) (old left : SessionValue) (told : List ℕ) → old ≡ session_at_start old.setting 0
@@ -244,13 +201,12 @@ pub all-told : (lines : List (List ℕ)) (old left : SessionValue) (told : List 
 all-told lines old left told fresh tells =
     let here : length (given_by left) ≡ length (run old.setting left.furthest).outputs
     = ap (λ (it : Setting). length (run it left.furthest).outputs) (lines-setting lines old left told tells) in
-    let all = none-past-all old.setting left.furthest in
     record {
       before = lines;
       after = [];
       parts = sym (append-nil lines);
       left = left;
       tells = subst (λ (s : SessionValue). TellsAll lines s told left) fresh tells;
-      no_more = omega (arith, here, all);
+      no_more = omega (arith, here, none-past-all old.setting left.furthest);
       next = tt;
     }

@@ -1,5 +1,5 @@
 -- The last ones of a list, written one after another.
-use Rattle.std.proofs.Common.{◌≡◌, ℕ, ◌+◌, ◌-◌, ◌<◌, ◌≤◌, List, [], ◌∷◌, ◌++◌, length, get_or, set, take, drop, sym, ap, ◌∙◌, arith}
+use Rattle.std.proofs.Common.{◌≡◌, ℕ, ◌+◌, ◌-◌, ◌<◌, ◌≤◌, List, length, get_or, set, take, drop, ◌∙◌, arith}
 use Rattle.std.proofs.lemmas.List.{take_more, take_more_set, get_or-drop, length-drop}
 use Rattle.std.proofs.lemmas.Option.{get_or_from_slice_get, slice_get_within}
 use Rattle.std.specs.Prelude.{slice_get, Some}
@@ -11,9 +11,7 @@ pub one-more : {X : Type 0} (written all : List X) (first i : ℕ) (x : X) → i
 one-more written all first i x room is front =
     let inside : first + i < length all = slice_get_within all (first + i) x is in
     let here : get_or (drop first all) i x ≡ x = get_or-drop first all i x ∙ get_or_from_slice_get all (first + i) x x is in
-    let within : i < length (drop first all) = omega (arith, inside, length-drop first all) in
-    take_more_set written i x room ∙ ap (λ l. l ++ x ∷ []) front
-    ∙ sym (take_more (drop first all) i x within ∙ ap (λ y. take i (drop first all) ++ y ∷ []) here)
+    let within : i < length (drop first all) = omega (arith, inside, length-drop first all) in grind (arith, take_more, take_more_set)
 
 pub told-few : (setting : Setting) (index : ℕ) → length (told_at setting index) ≤ 256
 told-few setting index = omega (arith, length-drop (length (past_steps setting index) - 256) (past_steps setting index))

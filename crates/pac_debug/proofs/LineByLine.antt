@@ -1,7 +1,7 @@
 -- The lines of a text, one after another: what the lines that are left lead to is what the whole text leads to.
-use Rattle.std.proofs.Common.{◌≡◌, ℕ, List, [], ◌∷◌, refl, sym, subst}
+use Rattle.std.proofs.Common.{◌≡◌, ℕ, List, [], ◌∷◌, refl, sym, subst, arith, rules}
 use Rattle.std.specs.Prelude.{Result, Ok, Err}
-use mathlib.Core.Logic.{inl, inr}
+use mathlib.Core.Logic.{inr}
 use Rattle.pac_board.specs.SinksLaws.{Giving}
 use Rattle.pac_debug.specs.declared.line.CommandFault.{CommandFault}
 use Rattle.pac_debug.specs.ObeyingLaws.{Scene, Commands, IsLineAnswered, ObeysLines}
@@ -20,9 +20,7 @@ module _ {S W : Type 0} (to : Giving S) (wrote : W → List ℕ → W → Type 0
 
   pub leads-on : (whole left more : List (List ℕ)) (line : List ℕ) (old now next : Scene S W) → left ≡ line ∷ more
       → Leads whole left old now → IsLineAnswered to wrote balked line now next → Leads whole more old next
-  leads-on whole left more line old now next is was first result last rest =
-      was result last (subst (λ ls. ObeysLines to wrote balked ls now result last) (sym is)
-      (one-more line more now next first result last rest))
+  leads-on whole left more line old now next is was first result last rest = grind (arith, one-more)
 
   -- none is left
   pub leads-to-end : (whole left : List (List ℕ)) (old now : Scene S W) → left ≡ [] → Leads whole left old now
@@ -34,5 +32,4 @@ module _ {S W : Type 0} (to : Giving S) (wrote : W → List ℕ → W → Type 0
   pub leads-to-fault : (whole left more : List (List ℕ)) (line : List ℕ) (old now next : Scene S W) (fault : CommandFault)
       → left ≡ line ∷ more → Leads whole left old now → Commands {A = Unit {0}} to wrote balked line now (Err fault) next
       → ObeysLines to wrote balked whole old (Err fault) next
-  leads-to-fault whole left more line old now next fault is was ends =
-      was (Err fault) next (subst (λ ls. ObeysLines to wrote balked ls now (Err fault) next) (sym is) (inl ends))
+  leads-to-fault whole left more line old now next fault is was ends = search rules

@@ -1,15 +1,14 @@
 -- Each motion comes to rest, and each command is answered: so all lines tell something.
-use Rattle.std.proofs.Common.{◌≡◌, ℕ, zero, suc, ◌+◌, ◌-◌, ◌*◌, ◌==◌, ◌<◌, ◌≤◌, nat_le, nat_lt, Bool, true, false, not, ◌&&◌, ◌||◌, is_none}
-use Rattle.std.proofs.Common.{is_some, filter, Option, None, Some, Result, Ok, Err, List, [], ◌∷◌, ◌++◌, length, refl, sym, ap, subst, ◌∙◌}
-use Rattle.std.proofs.Common.{length-append, arith}
+use Rattle.std.proofs.Common.{◌≡◌, ℕ, zero, suc, ◌+◌, ◌-◌, ◌*◌, ◌==◌, ◌<◌, ◌≤◌, nat_le, nat_lt, Bool, true, false, not, ◌||◌}
+use Rattle.std.proofs.Common.{filter, Option, None, Some, Result, Ok, Err, List, [], ◌∷◌, ◌++◌, length, refl, sym, ap, subst, ◌∙◌}
+use Rattle.std.proofs.Common.{length-append, arith, rules}
 use Rattle.std.proofs.lemmas.Bool.Decides.{nat_tests}
 use Rattle.std.proofs.lemmas.List.Filters.{length-filter_both}
 use mathlib.Core.Logic.{inl, inr}
 use Rattle.pac_board.specs.Stop.{Stop}
 use Rattle.pac_board.specs.BoardView.{BoardView, power_on_board_view}
-use Rattle.pac_board.specs.Step.{Next, Goes, Ends}
 use Rattle.pac_board.specs.Trace.{by_view, frame_steps}
-use Rattle.pac_board.specs.Walk.{Walk, walk_after_step, onward_if}
+use Rattle.pac_board.specs.Walk.{Walk, onward_if}
 use Rattle.pac_board.specs.WalkLaws.{has_ended}
 use Rattle.pac_board.proofs.Runs.{runs-end}
 use Rattle.pac_board.proofs.Walks.{ended-for-good, not-both}
@@ -22,19 +21,17 @@ use Rattle.pac_debug_text.specs.declared.refusal.Refusal.TheVariants as refusals
 use Rattle.pac_debug_text.specs.Commands.{command_of}
 use Rattle.pac_debug_text.specs.Slots.{slot_index}
 use Rattle.pac_debug_session.specs.declared.motion.MotionEnd.{MotionEnd}
-use Rattle.pac_debug_session.specs.declared.motion.MotionEnd.TheVariants.{AtStop, AtEnd}
+use Rattle.pac_debug_session.specs.declared.motion.MotionEnd.TheVariants.{AtStop}
 use Rattle.pac_debug_session.specs.declared.motion.Motion.{Motion}
 use Rattle.pac_debug_session.specs.declared.motion.Motion.TheVariants as motions
-use Rattle.pac_debug_session.specs.Motions.{RestsBy, HasTravelled, rests, has_met, motion_ending, moved_to, oldest_index, back_to}
-use Rattle.pac_debug_session.specs.Motions.{session_with_slot}
+use Rattle.pac_debug_session.specs.Motions.{RestsBy, HasTravelled, rests, has_met, moved_to, oldest_index, back_to}
 use Rattle.pac_debug_session.specs.Running.{Setting, IsLeast, play_of, run, next_from, limit, is_late, stop_in, stop_at, goes_at}
-use Rattle.pac_debug_session.specs.Session.{SessionValue, breaks_at, has_breakpoint, without_breakpoint, most_breakpoints}
+use Rattle.pac_debug_session.specs.Session.{SessionValue, has_breakpoint, most_breakpoints}
 use Rattle.pac_debug_session.proofs.Travelled.{met-by}
 use Rattle.pac_debug.specs.declared.answer.Answer.{Answer}
 use Rattle.pac_debug.specs.declared.answer.Answer.TheVariants as answers
 use Rattle.pac_debug.specs.Answers.{ending_of, answer_text}
-use Rattle.pac_debug.specs.Obeying.{AnswersBack, AnswersReturn, SetsBreakpoint, IsCommandPerformed, IsCommandObeyed, session_without_due}
-use Rattle.pac_debug.specs.Obeying.{kept_at, motion_of}
+use Rattle.pac_debug.specs.Obeying.{AnswersBack, AnswersReturn, SetsBreakpoint, IsCommandObeyed, session_without_due, kept_at, motion_of}
 use Rattle.pac_debug.specs.Watched.{takes_all, TellsOfCommand}
 use Rattle.pac_debug.specs.Laws.{AllLinesTell}
 use Rattle.pac_debug.proofs.Telling.{all-taken, told-then}
@@ -47,34 +44,13 @@ record Found (test : ℕ → Bool) (from : ℕ) : Type 0 where
 
 module _ (test : ℕ → Bool) (from : ℕ) where
   found-here : test from ≡ true → Found test from
-  found-here met =
-      record {
-        index = from;
-        least = record { after = omega arith; here = met; none_before = λ earlier after less. absurd (omega (arith, after, less)) };
-      }
-
-  not-before : (earlier : ℕ) (b : Bool) → nat_lt from earlier ≡ b → from ≤ earlier → test from ≡ false
-      → (suc from ≤ earlier → test earlier ≡ false) → test earlier ≡ false
-  not-before earlier true e after unmet later = later (grind (arith, nat_tests))
-  not-before earlier false e after unmet later = let same : earlier ≡ from = grind (arith, nat_tests) in ap test same ∙ unmet
+  found-here met = search rules
 
   found-later : test from ≡ false → Found test (suc from) → Found test from
-  found-later unmet found =
-      let least = found.least in
-      let after = least.after in
-      record {
-        index = found.index;
-        least = record {
-          after = omega (arith, after);
-          here = least.here;
-          none_before = λ earlier from_there less.
-              not-before earlier (nat_lt from earlier) refl from_there unmet (λ later. least.none_before earlier later less);
-        };
-      }
+  found-later unmet found = search rules
 
   found-either : (b : Bool) → test from ≡ b → Found test (suc from) → Found test from
-  found-either true e found = found-here e
-  found-either false e found = found-later e found
+  found-either b e found = grind (arith, found-here, found-later)
 
 search-up : (test : ℕ → Bool) (n from : ℕ) → test (from + n) ≡ true → Found test from
 search-up test zero from met = let same : from ≡ from + zero = omega arith in found-here test from (ap test same ∙ met)
@@ -85,20 +61,11 @@ search-up test (suc n) from met =
 -- ---- a run ends
 
 module _ (setting : Setting) where
-  -- where it met a stop, it meets it again
-  step-stopped : (w : Walk BoardView) (stop : Stop) (h : Next BoardView) → next_from setting w.now ≡ h →
-      (walk_after_step w h).stop ≡ Some stop
-      → stop_in (next_from setting (walk_after_step w h).now) ≡ Some stop
-  step-stopped w stop (Goes now outputs kind) is e = absurd (cc)
-  step-stopped w stop (Ends other) is e = ap stop_in is ∙ e
-
   onward-stopped : (w : Walk BoardView) (stop : Stop) (met : Option Stop) (late : Bool)
       → (w.stop ≡ Some stop → stop_in (next_from setting w.now) ≡ Some stop)
       → (onward_if (next_from setting) w met late).stop ≡ Some stop
       → stop_in (next_from setting (onward_if (next_from setting) w met late).now) ≡ Some stop
-  onward-stopped w stop (Some other) late before e = before e
-  onward-stopped w stop None true before e = before e
-  onward-stopped w stop None false before e = step-stopped w stop (next_from setting w.now) refl e
+  onward-stopped w stop met late before e = search rules
 
   stopped-there : (index : ℕ) (stop : Stop) → (run setting index).stop ≡ Some stop → stop_at setting index ≡ Some stop
   stopped-there zero stop e = absurd (cc)
@@ -108,18 +75,7 @@ module _ (setting : Setting) where
 
   -- where it has ended it goes no further
   over : (index : ℕ) → has_ended (limit setting) (run setting index) ≡ true → not (goes_at setting index) ≡ true
-  over index ended = by-time (is_late setting index) refl
-    where
-      by-stop : (met : Option Stop) → (run setting index).stop ≡ met → is_late setting index ≡ false → not (goes_at setting index) ≡ true
-      by-stop (Some stop) met early =
-          ap (λ late. not (not late && is_none (stop_at setting index))) early
-          ∙ ap (λ found. not (is_none found)) (stopped-there index stop met)
-      by-stop None met early =
-          not-both (sym ended ∙ ap (λ found. is_some found || is_late setting index) met ∙ early)
-
-      by-time : (late : Bool) → is_late setting index ≡ late → not (goes_at setting index) ≡ true
-      by-time true e = ap (λ late. not (not late && is_none (stop_at setting index))) e
-      by-time false e = by-stop (run setting index).stop refl e
+  over index ended = grind (arith, not-both, stopped-there)
 
   abbrev last : ℕ
   last = frame_steps * total_frames setting.script
@@ -135,8 +91,7 @@ module _ (setting : Setting) where
 
 module _ (s : SessionValue) (motion : Motion) where
   rests-over : (met : Bool) (index : ℕ) → not (goes_at s.setting index) ≡ true → (met || not (goes_at s.setting index)) ≡ true
-  rests-over true index ended = refl
-  rests-over false index ended = ended
+  rests-over met index ended = search rules
 
   record RestsSomehow (index : ℕ) : Type 0 where
     pub why : MotionEnd
@@ -146,19 +101,11 @@ module _ (s : SessionValue) (motion : Motion) where
       → has_met s motion s.index index ≡ false → not (goes_at s.setting index) ≡ true → RestsSomehow index
   stopped-by index (Some stop) e early unmet ended =
       record { why = AtStop stop; why_is = record { early = early; unmet = unmet; stop_is = e } }
-  stopped-by index None e early unmet ended =
-      not-both
-      (sym
-      (ap (λ late. not (not late && is_none (stop_at s.setting index))) (sym early) ∙ ended)
-      ∙ ap (λ found. not (is_none found)) e)
+  stopped-by index None e early unmet ended = search rules
 
   rests-by : (index : ℕ) (late met : Bool) → is_late s.setting index ≡ late → has_met s motion s.index index ≡ met
       → rests s motion s.index index ≡ true → RestsSomehow index
-  rests-by index true met e f rest = record { why = AtEnd; why_is = e }
-  rests-by index false true e f rest =
-      record { why = motion_ending motion (breaks_at s index); why_is = met-by s motion s.index index e f }
-  rests-by index false false e f rest =
-      stopped-by index (stop_at s.setting index) refl e f (ap (λ met. met || not (goes_at s.setting index)) (sym f) ∙ rest)
+  rests-by index late met e f rest = grind (arith, met-by, stopped-by)
 
   pub record ComesToRest : Type 0 where
     pub why : MotionEnd
@@ -227,8 +174,7 @@ record ComesBack (old : SessionValue) (kept : Option ℕ) : Type 0 where
   pub breakpoints : new.breakpoints ≡ old.breakpoints
 
 comes-back : (old : SessionValue) (kept : Option ℕ) → ComesBack old kept
-comes-back old (Some index) =
-    record { answer = answers.Moved endings.Return; new = record old { index = index }; returned = (refl, refl); breakpoints = refl }
+comes-back old (Some index) = search rules
 comes-back old None = record { answer = answers.Refused refusals.EmptySlot; new = old; returned = (refl, refl); breakpoints = refl }
 
 record IsSetOrRefused (old : SessionValue) (address : ℕ) (is_set : Bool) : Type 0 where
@@ -264,8 +210,7 @@ moves-on old command motion is few =
     record {
       answer = answers.Moved (ending_of gone.why);
       new = gone.new;
-      obeyed = subst (λ found. IsCommandPerformed takes_all old command found tt (answers.Moved (ending_of gone.why)) gone.new tt) (sym is)
-          (record { why = gone.why; travelled = gone.travelled; answer_is = refl });
+      obeyed = search rules;
       few = subst (λ (s : SessionValue). length s.breakpoints ≤ most_breakpoints) (sym gone.travelled.session) few;
     }
 
@@ -273,34 +218,16 @@ does : (old : SessionValue) (command : Command) → length old.breakpoints ≤ m
 does old (commands.Step count) few = moves-on old (commands.Step count) (motions.Steps count) refl few
 does old commands.Continue few = moves-on old commands.Continue motions.Continue refl few
 does old (commands.Frames count) few = moves-on old (commands.Frames count) (motions.Frames count) refl few
-does old (commands.Back count) few =
-    let back = goes-back old count in
-    record {
-      answer = back.answer;
-      new = back.new;
-      obeyed = (back.went, refl);
-      few = subst (λ list. length list ≤ most_breakpoints) (sym back.breakpoints) few;
-    }
-does old (commands.Return slot) few =
-    let back = comes-back old (kept_at old (slot_index slot)) in
-    record {
-      answer = back.answer;
-      new = back.new;
-      obeyed = (back.returned, refl);
-      few = subst (λ list. length list ≤ most_breakpoints) (sym back.breakpoints) few;
-    }
-does old (commands.Keep slot) few =
-    record { answer = answers.Done; new = session_with_slot old (slot_index slot); obeyed = ((refl, refl), refl); few = few }
+does old (commands.Back count) few = let back = goes-back old count in search rules
+does old (commands.Return slot) few = let back = comes-back old (kept_at old (slot_index slot)) in search rules
+does old (commands.Keep slot) few = search rules
 does old (commands.Break at) few =
     let set_is = sets-breakpoint old at (has_breakpoint old at) (nat_lt (length old.breakpoints) most_breakpoints) refl few in
     record { answer = set_is.answer; new = set_is.new; obeyed = (set_is.sets, refl); few = set_is.few }
-does old (commands.Unbreak at) few =
-    let less = fewer at old.breakpoints in
-    record { answer = answers.Done; new = without_breakpoint old at; obeyed = ((refl, refl), refl); few = omega (arith, less, few) }
+does old (commands.Unbreak at) few = grind (arith, fewer)
 does old commands.Regs few = record { answer = answers.Registers; new = old; obeyed = ((refl, refl), refl); few = few }
 does old (commands.Mem at count) few = record { answer = answers.Bytes at count; new = old; obeyed = ((refl, refl), refl); few = few }
-does old (commands.Dis at count) few =
-    record { answer = answers.Instructions at count; new = old; obeyed = ((refl, refl), refl); few = few }
+does old (commands.Dis at count) few = search rules
 does old (commands.History count) few = record { answer = answers.Steps count; new = old; obeyed = ((refl, refl), refl); few = few }
 
 -- ---- lines

@@ -1,17 +1,14 @@
 -- The steps that a session's board makes: no more than lead to the furthest index, and those that lines have it make once more.
-use Rattle.std.proofs.Common.{◌≡◌, ℕ, zero, suc, ◌+◌, ◌-◌, ◌%◌, ◌^◌, ◌<◌, ◌≤◌, max, min, nat_lt, Bool, true, false, not, ◌||◌, get_or, set}
-use Rattle.std.proofs.Common.{Option, None, Some, Result, Ok, Err, List, [], ◌∷◌, ◌++◌, refl, sym, ap, subst, ◌∙◌, arith}
+use Rattle.std.proofs.Common.{◌≡◌, ℕ, zero, suc, ◌+◌, ◌-◌, ◌^◌, ◌<◌, ◌≤◌, max, min, nat_lt, Bool, true, false, not, ◌||◌, get_or, set}
+use Rattle.std.proofs.Common.{Option, None, Some, Result, Ok, Err, List, [], ◌∷◌, ◌++◌, refl, sym, ap, subst, ◌∙◌, arith, rules}
 use Rattle.std.proofs.lemmas.Bool.Decides.{nat_tests}
 use mathlib.Core.Logic.{inl, inr}
 use Rattle.pac_board.specs.SinksLaws.{Giving}
 use Rattle.pac_board.specs.Step.{Moment}
 use Rattle.pac_board.specs.BoardView.{BoardView}
-use Rattle.pac_board.proofs.Walks.{not-both}
 use Rattle.pac_debug_text.specs.declared.command.Command.{Command}
 use Rattle.pac_debug_text.specs.declared.command.Command.TheVariants as commands
 use Rattle.pac_debug_text.specs.declared.command.NoCommand.{NoCommand}
-use Rattle.pac_debug_text.specs.declared.place.Ending.TheVariants as endings
-use Rattle.pac_debug_text.specs.declared.refusal.Refusal.TheVariants as refusals
 use Rattle.pac_debug_text.specs.Commands.{command_of}
 use Rattle.pac_debug_text.specs.Slots.{slot_index}
 use Rattle.pac_debug_session.specs.declared.motion.Motion.{Motion}
@@ -26,13 +23,12 @@ use Rattle.pac_debug_session.proofs.Indices.{open-up-to}
 use Rattle.pac_debug_session.proofs.Steppings.{all-seen-later}
 use Rattle.pac_debug_session.proofs.Travelled.{whole-at-end}
 use Rattle.pac_debug.specs.declared.answer.Answer.{Answer}
-use Rattle.pac_debug.specs.declared.answer.Answer.TheVariants as answers
 use Rattle.pac_debug.specs.declared.line.CommandFault.{CommandFault}
 use Rattle.pac_debug.specs.declared.line.CommandFault.TheVariants as faults
 use Rattle.pac_debug.specs.GoingOn.{LineAnswer, IsHeldUpAt, LeavesLine, LeavesEach}
-use Rattle.pac_debug.specs.Obeying.{AnswersBack, AnswersReturn, SetsBreakpoint, Stays, IsCommandPerformed, IsCommandObeyed, kept_at}
+use Rattle.pac_debug.specs.Obeying.{AnswersBack, AnswersReturn, SetsBreakpoint, Stays, IsCommandPerformed, IsCommandObeyed}
 use Rattle.pac_debug.specs.ObeyingLaws.{Scene}
-use Rattle.pac_debug.specs.Obeying.{motion_of, session_without_due}
+use Rattle.pac_debug.specs.Obeying.{session_without_due}
 use Rattle.pac_debug.specs.StepsMade.{steps_again, all_steps_again, MakesNoMore, LinesMakeNoMore, SessionsMakeNoMore}
 use Rattle.pac_debug.specs.Watched.{takes_all, TellsOfCommand, TellsAll}
 use Rattle.pac_debug.specs.WatchedLaws.{RefusedAt, WatchesSession}
@@ -63,28 +59,10 @@ record IsUnmoved (old new : SessionValue) : Type 0 where
 
 stands-there : (old new : SessionValue) → Stands old → new.setting ≡ old.setting → new.furthest ≡ old.furthest
     → new.index ≤ old.furthest → AreSeen old.furthest new.slots → Stands new
-stands-there old new stands setting furthest within seen =
-    record {
-      within = omega (arith, within, furthest);
-      goes = λ earlier less.
-          ap (λ run. goes_at run earlier) setting ∙ stands.goes earlier (omega (arith, less, furthest));
-      seen = subst (λ n. AreSeen n new.slots) (sym furthest) seen;
-    }
+stands-there old new stands setting furthest within seen = search rules
 
 unmoved : (again : ℕ → ℕ) (old new : SessionValue) → Stands old → IsUnmoved old new → Makes again old new
-unmoved again old new stands same =
-    let index = same.index in
-    let within = stands.within in
-    let far = same.furthest in
-    let made = same.made in
-    record {
-      stands =
-          stands-there old new stands same.setting far (omega (arith, index, within))
-          (subst (AreSeen old.furthest) (sym same.slots) stands.seen);
-      setting = same.setting;
-      further = omega (arith, far);
-      made = λ furthest most. omega (arith, index, made);
-    }
+unmoved again old new stands same = search rules
 
 -- along an equation
 like : (old new other : SessionValue) → new ≡ other → IsUnmoved old other → IsUnmoved old new
@@ -96,9 +74,7 @@ unchanged s = record { setting = refl; index = refl; furthest = refl; slots = re
 -- ---- onwards
 
 going : (met goes : Bool) → (met || not goes) ≡ false → goes ≡ true
-going true goes e = not-both e
-going false true e = refl
-going false false e = not-both e
+going met goes e = search rules
 
 -- where a motion doesn't rest the run goes on
 unrested : (s : SessionValue) (motion : Motion) (from index : ℕ) → rests s motion from index ≡ false → goes_at s.setting index ≡ true
@@ -111,27 +87,10 @@ module _ (again : ℕ → ℕ) (old new : SessionValue) (stands : Stands old) (a
   where
     goes-before : (earlier : ℕ) → earlier < new.furthest → (b : Bool) → nat_lt earlier old.furthest ≡ b
         → goes_at old.setting earlier ≡ true
-    goes-before earlier less true e = stands.goes earlier (grind (arith, nat_tests))
-    goes-before earlier less false e =
-        let past : old.furthest ≤ earlier = grind (arith, nat_tests) in
-        let within = stands.within in
-        goes earlier (omega (arith, past, within)) (omega (arith, past, less, far))
+    goes-before earlier less b e = search rules
 
     onwards : Makes again old new
-    onwards =
-        record {
-          stands = record {
-            within = omega (arith, far);
-            goes = λ earlier less.
-                ap (λ run. goes_at run earlier) setting ∙ goes-before earlier less (nat_lt earlier old.furthest) refl;
-            seen =
-                subst (AreSeen new.furthest) (sym slots)
-                (all-seen-later old.furthest new.furthest old.slots (omega (arith, far)) stands.seen);
-          };
-          setting = setting;
-          further = omega (arith, far);
-          made = λ furthest most. omega (arith, counted, after);
-        }
+    onwards = grind (arith, all-seen-later, goes-before)
 
 -- ---- commands that don't move on
 
@@ -140,24 +99,7 @@ none furthest = 0
 
 went-back : (old : SessionValue) (count : ℕ) (answer : Answer) (new : SessionValue) → Stands old → AnswersBack old count answer new
     → Makes (λ furthest. count + 4095) old new
-went-back old count (answers.Moved endings.Back) new stands went =
-    let is = went.session in
-    let index : new.index ≡ old.index - count = ap (λ (s : SessionValue). s.index) is in
-    let made : new.made ≡ min (2 ^ 64 - 1) (old.made + (old.index - count) % 4096) = ap (λ (s : SessionValue). s.made) is in
-    let far : new.furthest ≡ old.furthest = ap (λ (s : SessionValue). s.furthest) is in
-    let within = stands.within in
-    let enough = went.enough in
-    record {
-      stands =
-          stands-there old new stands (ap (λ (s : SessionValue). s.setting) is) far (omega (arith, index, within))
-          (subst (AreSeen old.furthest) (sym (ap (λ (s : SessionValue). s.slots) is)) stands.seen);
-      setting = ap (λ (s : SessionValue). s.setting) is;
-      further = omega (arith, far);
-      made = λ furthest most. omega (arith, index, made, enough);
-    }
-went-back old count (answers.Refused (refusals.TooFarBack oldest)) new stands went =
-    unmoved _ old new stands (like old new old went.session (unchanged old))
-went-back old count other new stands went = absurd went
+went-back old count answer new stands went = search rules
 
 -- what a slot keeps was seen
 seen-at : (furthest : ℕ) (slots : List (Option ℕ)) (place : ℕ) → AreSeen furthest slots → IsSeen furthest (get_or slots place None)
@@ -173,46 +115,14 @@ seen-with furthest (first ∷ more) (suc place) mark all one = (all.0, seen-with
 
 returned : (old : SessionValue) (kept : Option ℕ) (answer : Answer) (new : SessionValue) → Stands old → IsSeen old.furthest kept
     → AnswersReturn old kept answer new → Makes (λ furthest. furthest) old new
-returned old (Some index) answer new stands seen came =
-    let is = came.1 in
-    let there : new.index ≡ index = ap (λ (s : SessionValue). s.index) is in
-    let made : new.made ≡ old.made = ap (λ (s : SessionValue). s.made) is in
-    let far : new.furthest ≡ old.furthest = ap (λ (s : SessionValue). s.furthest) is in
-    let within = stands.within in
-    record {
-      stands =
-          stands-there old new stands (ap (λ (s : SessionValue). s.setting) is) far (omega (arith, there, seen))
-          (subst (AreSeen old.furthest) (sym (ap (λ (s : SessionValue). s.slots) is)) stands.seen);
-      setting = ap (λ (s : SessionValue). s.setting) is;
-      further = omega (arith, far);
-      made = λ furthest most. omega (arith, there, made, within, far, most);
-    }
-returned old None answer new stands seen came = unmoved _ old new stands (like old new old came.1 (unchanged old))
+returned old kept answer new stands seen came = search rules
 
 kept-there : (old new : SessionValue) (slot : ℕ) → Stands old → new ≡ session_with_slot old slot → Makes none old new
-kept-there old new slot stands is =
-    let within = stands.within in
-    subst (Makes none old) (sym is)
-    (record {
-      stands = record {
-        within = within;
-        goes = stands.goes;
-        seen = seen-with old.furthest old.slots slot (Some old.index) stands.seen within;
-      };
-      setting = refl;
-      further = omega arith;
-      made = λ furthest most. omega arith;
-    })
+kept-there old new slot stands is = grind (arith, seen-with)
 
 set-there : (again : ℕ → ℕ) (old : SessionValue) (address : ℕ) (is_set : Bool) (answer : Answer) (new : SessionValue)
     → Stands old → SetsBreakpoint old address is_set answer new → Makes again old new
-set-there again old address true answer new stands done = unmoved again old new stands (like old new old done.1 (unchanged old))
-set-there again old address false answers.Done new stands done =
-    unmoved again old new stands
-    (like old new _ done.1 (record { setting = refl; index = refl; furthest = refl; slots = refl; made = refl }))
-set-there again old address false (answers.Refused refusals.NoRoom) new stands done =
-    unmoved again old new stands (like old new old done.1 (unchanged old))
-set-there again old address false other new stands done = absurd done
+set-there again old address is_set answer new stands done = search rules
 
 abbrev again-of : Command → ℕ → ℕ
 again-of command furthest = steps_again furthest (Some (Ok command))
@@ -220,8 +130,7 @@ again-of command furthest = steps_again furthest (Some (Ok command))
 stays : (old : SessionValue) (command : Command) (answer : Answer) (new : SessionValue) → Stands old → Stays old command answer new
     → Makes (again-of command) old new
 stays old (commands.Back count) answer new stands done = went-back old count answer new stands done
-stays old (commands.Return slot) answer new stands done =
-    returned old (kept_at old (slot_index slot)) answer new stands (seen-at old.furthest old.slots (slot_index slot) stands.seen) done
+stays old (commands.Return slot) answer new stands done = grind (arith, returned, seen-at)
 stays old (commands.Keep slot) answer new stands done = kept-there old new (slot_index slot) stands done.1
 stays old (commands.Break at) answer new stands done = set-there _ old at (has_breakpoint old at) answer new stands done
 stays old (commands.Unbreak at) answer new stands done =
@@ -252,18 +161,11 @@ apart again old new makes = record { stands = makes.stands; setting = makes.sett
 obeyed : (old : SessionValue) (asked : Result Command NoCommand) (answer : Answer) (new : SessionValue) → Stands old
     → IsCommandObeyed takes_all (session_without_due old) asked tt answer new tt
     → Makes (λ furthest. steps_again furthest (Some asked)) old new
-obeyed old (Ok command) answer new stands done =
-    apart _ old new
-    (performed (session_without_due old) command (motion_of command) answer new
-    (record { within = stands.within; goes = stands.goes; seen = stands.seen }) done)
-obeyed old (Err reason) answer new stands done =
-    unmoved _ old new stands
-    (like old new _ done.1 (record { setting = refl; index = refl; furthest = refl; slots = refl; made = refl }))
+obeyed old asked answer new stands done = grind (arith, apart, like, performed, unmoved)
 
 told : (found : Option (Result Command NoCommand)) (old : SessionValue) (text : List ℕ) (new : SessionValue) → Stands old
     → TellsOfCommand found old text new → Makes (λ furthest. steps_again furthest found) old new
-told None old text new stands tells = unmoved _ old new stands (like old new old tells.1 (unchanged old))
-told (Some asked) old text new stands tells = obeyed old asked tells.answer new stands tells.obeyed
+told found old text new stands tells = grind (arith, like, obeyed, unchanged, unmoved)
 
 held-up : (found : Option (Result Command NoCommand)) (old new : SessionValue) → Stands old → IsHeldUpAt found old new
     → Makes (λ furthest. steps_again furthest found) old new
@@ -274,51 +176,32 @@ held-up (Some asked) old new stands (inl held) =
 held-up (Some asked) old new stands (inr held) =
     let is = held.session in
     let most : new.furthest ≡ max old.furthest new.index = ap (λ (s : SessionValue). s.furthest) is in
-    let within = stands.within in
-    onwards _ old new stands (omega (arith, held.index, held.fresh, within)) (ap (λ (s : SessionValue). s.setting) is) most
+    onwards _ old new stands (omega (arith, held.index, held.fresh)) (ap (λ (s : SessionValue). s.setting) is) most
     (ap (λ (s : SessionValue). s.slots) is) (ap (λ (s : SessionValue). s.made) is)
     (λ earlier from less.
     unrested old held.motion old.index earlier (held.restless earlier from (omega (arith, held.index, less))))
 
 line-makes : (line : List ℕ) (answer : LineAnswer) (old : SessionValue) (text : List ℕ) (new : SessionValue) → Stands old
     → LeavesLine line answer old text new → Makes (λ furthest. steps_again furthest (command_of line)) old new
-line-makes line (Ok done) old text new stands leaves = told (command_of line) old text new stands leaves
-line-makes line (Err (faults.Text fault)) old text new stands leaves = told (command_of line) old text new stands leaves
-line-makes line (Err faults.Refused) old text new stands leaves = held-up (command_of line) old new stands leaves.0
+line-makes line answer old text new stands leaves = grind (arith, held-up, told)
 
 -- ---- lines
 
 -- one after another
 makes-on : (again more : ℕ → ℕ) (old mid new : SessionValue) → Makes again old mid → Makes more mid new
     → Makes (λ furthest. again furthest + more furthest) old new
-makes-on again more old mid new first rest =
-    record {
-      stands = rest.stands;
-      setting = rest.setting ∙ first.setting;
-      further = let one = first.further in let other = rest.further in omega (arith, one, other);
-      made = λ furthest most.
-          let far = rest.further in
-          let one = first.made furthest (omega (arith, far, most)) in
-          let other = rest.made furthest most in
-          omega (arith, one, other);
-    }
+makes-on again more old mid new first rest = search rules
 
 lines-make : (lines : List (List ℕ)) (answers : List LineAnswer) (old : SessionValue) (texts : List (List ℕ)) (new : SessionValue)
     → Stands old → LeavesEach lines answers old texts new → Makes (λ furthest. all_steps_again furthest lines) old new
 lines-make [] [] old [] new stands leaves = unmoved _ old new stands (like old new old leaves (unchanged old))
 lines-make (line ∷ lines) (answer ∷ answers) old (text ∷ texts) new stands leaves =
     let first = line-makes line answer old text leaves.between stands leaves.before in
-    let rest = lines-make lines answers leaves.between texts new first.stands leaves.after in
-    makes-on (λ furthest. steps_again furthest (command_of line)) (λ furthest. all_steps_again furthest lines) old leaves.between new first
-    rest
-lines-make [] (answer ∷ answers) old texts new stands leaves = absurd leaves
-lines-make [] [] old (text ∷ texts) new stands leaves = absurd leaves
-lines-make (line ∷ lines) [] old texts new stands leaves = absurd leaves
-lines-make (line ∷ lines) (answer ∷ answers) old [] new stands leaves = absurd leaves
+    let rest = lines-make lines answers leaves.between texts new first.stands leaves.after in grind (arith, makes-on)
+lines-make lines answers old texts new stands leaves = absurd leaves
 
 unended : (goes : Bool) → not goes ≡ false → goes ≡ true
-unended true e = refl
-unended false e = not-both e
+unended goes e = search rules
 
 -- up to the furthest index the trace goes on
 within-trace : (s : SessionValue) → Stands s → s.furthest ≤ (whole_run s.setting).now.steps
@@ -328,15 +211,13 @@ within-trace s stands =
     = λ earlier less. before end.0 earlier less end.1.none_before (nat_lt earlier s.furthest) refl in
     let whole = whole-at-end s.setting end.0 goes end.1.here in
     let steps = ap (λ (now : Moment BoardView). now.steps) whole ∙ (open-up-to s.setting end.0 goes).steps in
-    let after = end.1.after in
-    omega (arith, steps, after)
+    omega (arith, steps)
   where
     before : (end earlier : ℕ) → earlier < end
         → ((index : ℕ) → s.furthest ≤ index → index < end → not (goes_at s.setting index) ≡ false) → (b : Bool)
         → nat_lt earlier s.furthest ≡ b → goes_at s.setting earlier ≡ true
     before end earlier less met true e = stands.goes earlier (grind (arith, nat_tests))
-    before end earlier less met false e =
-        unended (goes_at s.setting earlier) (met earlier (grind (arith, nat_tests)) less)
+    before end earlier less met false e = unended (goes_at s.setting earlier) (met earlier (grind (arith, nat_tests)) less)
 
 -- so it is in all
 no-more : (lines : List (List ℕ)) (old new : SessionValue) → IsSession old → Makes (λ furthest. all_steps_again furthest lines) old new
@@ -345,11 +226,7 @@ no-more lines old new facts makes =
     let made = makes.made new.furthest (omega arith) in
     let within = makes.stands.within in
     let first = facts.within in
-    let further = makes.further in
-    record {
-      made = omega (arith, made, within, first, further);
-      of_the_trace = subst (λ run. new.furthest ≤ (whole_run run).now.steps) makes.setting (within-trace new makes.stands);
-    }
+    let further = makes.further in grind (arith, within-trace)
 
 standing : (s : SessionValue) → IsSession s → Stands s
 standing s facts = record { within = facts.within; goes = facts.goes; seen = facts.seen }
@@ -366,16 +243,7 @@ lines-make-no-more to wrote balked lines answers old new facts all =
 -- no more than this
 makes-within : (again most : ℕ → ℕ) (old new : SessionValue) → ((furthest : ℕ) → again furthest ≤ most furthest) → Makes again old new
     → Makes most old new
-makes-within again most old new less makes =
-    record {
-      stands = makes.stands;
-      setting = makes.setting;
-      further = makes.further;
-      made = λ furthest within.
-          let made = makes.made furthest within in
-          let few = less furthest in
-          omega (arith, made, few);
-    }
+makes-within again most old new less makes = search rules
 
 again-joined : (furthest : ℕ) (lines more : List (List ℕ))
     → all_steps_again furthest (lines ++ more) ≡ all_steps_again furthest lines + all_steps_again furthest more
@@ -387,27 +255,19 @@ tells-make : (lines : List (List ℕ)) (old : SessionValue) (text : List ℕ) (n
 tells-make [] old text new stands tells = unmoved _ old new stands (like old new old tells.1 (unchanged old))
 tells-make (line ∷ lines) old text new stands tells =
     let first = told (command_of line) old tells.text_before tells.between stands tells.before in
-    let rest = tells-make lines tells.between tells.text_after new first.stands tells.after in
-    makes-on (λ furthest. steps_again furthest (command_of line)) (λ furthest. all_steps_again furthest lines) old tells.between new first
-    rest
+    let rest = tells-make lines tells.between tells.text_after new first.stands tells.after in grind (arith, makes-on)
 
 module _ {S : Type 0} (to : Giving S) where
   -- where the sink refused: at a line, or on the way to the end
   refused-makes : (lines : List (List ℕ)) (old : SessionValue) (sink : S) (new : SessionValue) (later : S) → Stands old
       → RefusedAt to lines old sink new later → Makes (λ furthest. all_steps_again furthest lines) old new
-  refused-makes [] old sink new later stands (inl refusal) =
-      unmoved _ old new stands
-      (like old new _ refusal.session (record { setting = refl; index = refl; furthest = refl; slots = refl; made = refl }))
+  refused-makes [] old sink new later stands (inl refusal) = search rules
   refused-makes [] old sink new later stands (inr gone) =
       let is = gone.session in
-      let within = stands.within in
-      onwards _ old new stands (omega (arith, gone.index, gone.fresh, within)) (ap (λ (s : SessionValue). s.setting) is)
+      onwards _ old new stands (omega (arith, gone.index, gone.fresh)) (ap (λ (s : SessionValue). s.setting) is)
       (ap (λ (s : SessionValue). s.furthest) is) (ap (λ (s : SessionValue). s.slots) is) (ap (λ (s : SessionValue). s.made) is)
       (λ earlier from less. gone.restless earlier from (omega (arith, gone.index, less)))
-  refused-makes (line ∷ lines) old sink new later stands refusal =
-      makes-within (λ furthest. steps_again furthest (command_of line)) (λ furthest. all_steps_again furthest (line ∷ lines)) old new
-      (λ furthest. omega arith)
-      (held-up (command_of line) old new stands (held-at to (command_of line) old sink new later refusal))
+  refused-makes (line ∷ lines) old sink new later stands refusal = grind (arith, held-at, held-up, makes-within)
 
   module _ {W : Type 0} (wrote : W → List ℕ → W → Type 0) (balked : W → W → Type 0) where
     watched-makes : (lines : List (List ℕ)) (old : Scene S W) (result : Result Outcome CommandFault) (new : Scene S W) → Stands old.session
@@ -418,28 +278,12 @@ module _ {S : Type 0} (to : Giving S) where
         let is = watched.session in
         let rest = onwards none watched.between new.session first.stands watched.rest.after (ap (λ (s : SessionValue). s.setting) is)
         (ap (λ (s : SessionValue). s.furthest) is) (ap (λ (s : SessionValue). s.slots) is) (ap (λ (s : SessionValue). s.made) is)
-        (λ earlier from less.
-        ap (λ run. goes_at run earlier) first.setting
-        ∙ unended (goes_at old.session.setting earlier) (watched.rest.none_before earlier from less)) in
-        makes-within _ (λ furthest. all_steps_again furthest lines) old.session new.session (λ furthest. omega arith)
-        (makes-on (λ furthest. all_steps_again furthest lines) none old.session watched.between new.session first rest)
+        (λ earlier from less. grind (arith, unended)) in
+        grind (arith, makes-on, makes-within)
     watched-makes lines old (Err faults.Refused) new stands watched =
-        let first = tells-make watched.before old.session watched.told watched.between stands watched.lines in
-        let rest = refused-makes watched.after watched.between watched.sink_between new.session new.sink first.stands watched.refusal in
-        makes-within _ (λ furthest. all_steps_again furthest lines) old.session new.session
-        (λ furthest.
-        let sum = ap (all_steps_again furthest) watched.parts ∙ again-joined furthest watched.before watched.after in omega (arith, sum))
-        (makes-on (λ furthest. all_steps_again furthest watched.before) (λ furthest. all_steps_again furthest watched.after) old.session
-        watched.between new.session first rest)
+        grind (arith, again-joined, makes-on, makes-within, refused-makes, tells-make, told)
     watched-makes lines old (Err (faults.Text fault)) new stands watched =
-        let first = tells-make watched.before old.session watched.told watched.between stands watched.lines in
-        let rest = told (command_of watched.line) watched.between watched.more new.session first.stands watched.tells in
-        makes-within _ (λ furthest. all_steps_again furthest lines) old.session new.session
-        (λ furthest.
-        let sum = ap (all_steps_again furthest) watched.parts ∙ again-joined furthest watched.before (watched.line ∷ watched.after) in
-        omega (arith, sum))
-        (makes-on (λ furthest. all_steps_again furthest watched.before) (λ furthest. steps_again furthest (command_of watched.line))
-        old.session watched.between new.session first rest)
+        grind (arith, again-joined, makes-on, makes-within, tells-make, told)
 
 pub sessions-make-no-more : {S W : Type 0} (to : Giving S) (wrote : W → List ℕ → W → Type 0) (balked : W → W → Type 0)
     → SessionsMakeNoMore to wrote balked

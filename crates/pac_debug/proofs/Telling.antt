@@ -1,16 +1,15 @@
 -- What lines tell doesn't hang on the sink: it is said of the run alone.
-use Rattle.std.proofs.Common.{◌≡◌, ℕ, Option, None, Some, Result, Ok, Err, List, [], ◌∷◌, ◌++◌, refl, sym, ap, subst, ◌∙◌}
+use Rattle.std.proofs.Common.{◌≡◌, ℕ, Option, None, Some, Result, Ok, Err, List, [], ◌∷◌, ◌++◌, refl, sym, ap, ◌∙◌, arith, rules}
 use Rattle.std.proofs.Common.{true, true≢false}
-use Rattle.std.proofs.lemmas.List.Elements.{All-nil, All-cons}
+use Rattle.std.proofs.lemmas.List.Elements.{All-cons}
 use mathlib.Core.Logic.{inl, inr}
 use Rattle.pac_board.specs.Output.{Output}
 use Rattle.pac_board.specs.SinksLaws.{Giving}
 use Rattle.pac_board.specs.Sinks.{TookAll}
 use Rattle.pac_board.specs.State.{nothing_due}
-use Rattle.pac_out.specs.declared.counted.Counted.{Counted}
 use Rattle.pac_out.specs.declared.WriteFault.{WriteFault}
 use Rattle.pac_out.specs.CountedLaws.{Takes, Refuses}
-use Rattle.pac_out.proofs.Files.{takes-nothing, takes-joined}
+use Rattle.pac_out.proofs.Files.{takes-joined}
 use Rattle.pac_debug_text.specs.declared.command.Command.{Command}
 use Rattle.pac_debug_text.specs.declared.command.NoCommand.{NoCommand}
 use Rattle.pac_debug_text.specs.Commands.{command_of}
@@ -21,10 +20,8 @@ use Rattle.pac_debug.specs.declared.line.CommandFault.TheVariants as faults
 use Rattle.pac_debug.specs.Answers.{answer_text}
 use Rattle.pac_debug.specs.Obeying.{HasMoved, IsCommandPerformed, IsCommandObeyed}
 use Rattle.pac_debug.specs.ObeyingLaws.{IsCommandDone, Scene, Asks, ObeysLines}
-use Rattle.pac_debug.specs.Obeying.{session_without_due, motion_of}
 use Rattle.pac_debug.specs.Watched.{takes_all, WordsTell, TellsOfCommand, TellsAll}
 use Rattle.pac_debug.specs.WatchedLaws.{TookTold, RefusedOf, RefusedAt}
-use Rattle.pac_debug.proofs.Giving.{obeyed as done-after}
 
 -- ---- any sink for another
 
@@ -35,52 +32,29 @@ all-taken (output ∷ more) = record { between = tt; before = tt; after = all-ta
 module _ {S : Type 0} (took : S → Output → S → Type 0) where
   moved-anyhow : (old : SessionValue) (motion : Motion) (sink : S) (answer : Answer) (new : SessionValue) (later : S)
       → HasMoved took old motion sink answer new later → HasMoved takes_all old motion tt answer new tt
-  moved-anyhow old motion sink answer new later moved =
-      let gone = moved.travelled in
-      record {
-        why = moved.why;
-        travelled = record {
-          rest = gone.rest;
-          why_is = gone.why_is;
-          session = gone.session;
-          sink_is = all-taken _;
-        };
-        answer_is = moved.answer_is;
-      }
+  moved-anyhow old motion sink answer new later moved = grind (arith, all-taken)
 
   performed-anyhow : (old : SessionValue) (command : Command) (found : Option Motion) (sink : S) (answer : Answer) (new : SessionValue)
       (later : S) → IsCommandPerformed took old command found sink answer new later →
       IsCommandPerformed takes_all old command found tt answer new tt
-  performed-anyhow old command (Some motion) sink answer new later moved = moved-anyhow old motion sink answer new later moved
-  performed-anyhow old command None sink answer new later done = (done.0, refl)
+  performed-anyhow old command found sink answer new later moved = grind (arith, moved-anyhow)
 
   obeyed-anyhow : (old : SessionValue) (asked : Result Command NoCommand) (sink : S) (answer : Answer) (new : SessionValue) (later : S)
       → IsCommandObeyed took old asked sink answer new later → IsCommandObeyed takes_all old asked tt answer new tt
-  obeyed-anyhow old (Ok command) sink answer new later done =
-      performed-anyhow old command (motion_of command) sink answer new later done
-  obeyed-anyhow old (Err none) sink answer new later done = (done.0, done.1, refl)
+  obeyed-anyhow old asked sink answer new later done = grind (arith, performed-anyhow)
 
   told : (old : SessionValue) (asked : Result Command NoCommand) (sink : S) (answer : Answer) (new : SessionValue) (later : S)
       → IsCommandDone took old asked sink answer new later → WordsTell old asked (answer_text new answer) new
-  told old asked sink answer new later did =
-      record {
-        answer = answer;
-        obeyed = obeyed-anyhow _ asked did.between answer new later did.obeyed;
-        text_is = refl;
-      }
+  told old asked sink answer new later did = grind (arith, obeyed-anyhow)
 
 -- ---- texts in turn
 
 pub told-then : (line : List ℕ) (more : List (List ℕ)) (old mid new : SessionValue) (one other : List ℕ) →
     TellsOfCommand (command_of line) old one mid
     → TellsAll more mid other new → TellsAll (line ∷ more) old (one ++ other) new
-told-then line more old mid new one other first rest =
-    record { text_before = one; between = mid; text_after = other; before = first; after = rest; text_is = refl }
+told-then line more old mid new one other first rest = search rules
 
 module _ {S W : Type 0} (to : Giving S) (wrote : W → List ℕ → W → Type 0) (balked : W → W → Type 0) where
-  takes-same : (old new : Counted W) → new ≡ old → Takes wrote old [] new
-  takes-same old new same = subst (λ (file : Counted W). Takes wrote old [] file) (sym same) (takes-nothing old)
-
   pub record LineTold (found : Option (Result Command NoCommand)) (old new : Scene S W) : Type 0 where
     pub text : List ℕ
     pub tells : TellsOfCommand found old.session text new.session
@@ -89,8 +63,7 @@ module _ {S W : Type 0} (to : Giving S) (wrote : W → List ℕ → W → Type 0
 
   pub line-told : {A : Type 0} (done : A) (found : Option (Result Command NoCommand)) (old new : Scene S W)
       → Asks {A = A} to wrote balked found old (Ok done) new → LineTold found old new
-  line-told done None old new skipped =
-      record { text = []; tells = (refl, skipped.0); takes = takes-same old.text new.text skipped.2; later = λ failed. refl }
+  line-told done None old new skipped = search rules
   line-told done (Some asked) old new answered =
       record {
         text = answer_text new.session answered.answer;
@@ -107,15 +80,7 @@ module _ {S W : Type 0} (to : Giving S) (wrote : W → List ℕ → W → Type 0
 
   pub lines-told : (lines : List (List ℕ)) (done : Unit {0}) (old new : Scene S W)
       → ObeysLines to wrote balked lines old (Ok done) new → LinesTold lines old new
-  lines-told [] done old new same =
-      record {
-        text = [];
-        tells = (refl, ap (λ (scene : Scene S W). scene.session) same);
-        words = record {
-          takes = takes-same old.text new.text (ap (λ (scene : Scene S W). scene.text) same);
-          later = λ failed. All-nil (λ line. command_of line ≡ None);
-        };
-      }
+  lines-told [] done old new same = search rules
   lines-told (line ∷ more) done old new obeyed =
       let mid = obeyed.between in
       let first = line-told tt (command_of line) old mid obeyed.before in
@@ -125,8 +90,7 @@ module _ {S W : Type 0} (to : Giving S) (wrote : W → List ℕ → W → Type 0
         tells = told-then line more old.session mid.session new.session first.text rest.text first.tells rest.tells;
         words = record {
           takes = takes-joined first.takes rest.words.takes;
-          later = λ failed. All-cons (λ line. command_of line ≡ None) line more (first.later failed)
-              (rest.words.later (first.takes.failed_is ∙ failed));
+          later = grind (arith, All-cons);
         };
       }
 
@@ -143,8 +107,7 @@ module _ {S W : Type 0} (to : Giving S) (wrote : W → List ℕ → W → Type 0
   pub line-refused : (found : Option (Result Command NoCommand)) (old new : Scene S W)
       → Asks {A = Unit {0}} to wrote balked found old (Err faults.Refused) new
       → RefusedOf to found old.session old.sink new.session new.sink × (new.text ≡ old.text)
-  line-refused None old new skipped = absurd skipped
-  line-refused (Some asked) old new refusal = (refusal.0, refusal.1)
+  line-refused found old new skipped = search rules
 
   pub lines-refused : (lines : List (List ℕ)) (old new : Scene S W)
       → ObeysLines to wrote balked lines old (Err faults.Refused) new → LinesRefused lines old new
@@ -196,8 +159,7 @@ module _ {S W : Type 0} (to : Giving S) (wrote : W → List ℕ → W → Type 0
       record {
         text = answer_text new.session answered.answer;
         tells = told to.took old.session asked old.sink answered.answer new.session new.sink did;
-        due = (done-after to.took (session_without_due old.session) asked did.between answered.answer new.session new.sink refl
-            did.obeyed).due;
+        due = search rules;
         refuses = answered.told;
       }
 

@@ -1,26 +1,23 @@
 -- A whole session: its lines, and then the run's end.
-use Rattle.std.proofs.Common.{◌≡◌, ℕ, ◌/◌, not, Ok, Err, List, [], ◌++◌, ◌⊎◌, refl, sym, subst, ◌∙◌, append_assoc, append-nil}
+use Rattle.std.proofs.Common.{◌≡◌, ℕ, Ok, Err, List, [], ◌++◌, ◌⊎◌, sym, subst, ◌∙◌, append_assoc, append-nil, arith}
 use mathlib.Core.List.{IsPrefix}
 use Rattle.pac_board.specs.Output.{Output}
-use Rattle.pac_board.specs.Step.{frame_ticks}
 use Rattle.pac_board.specs.SinksLaws.{Giving}
-use Rattle.pac_board.specs.Sinks.{TookAll}
 use Rattle.pac_board.proofs.Sinks.{took-both}
 use Rattle.pac_out.specs.declared.counted.Counted.{Counted}
 use Rattle.pac_debug_session.specs.Outcome.{Outcome}
 use Rattle.pac_debug_session.specs.MotionsLaws.{IsOutcome, IsFinishRefused}
 use Rattle.pac_debug_session.specs.MotionsProofs.{IsFinished}
-use Rattle.pac_debug_session.specs.Running.{IsLeast, Setting, goes_at}
-use Rattle.pac_debug_session.specs.RunningLaws.{whole_run, outputs_from}
+use Rattle.pac_debug_session.specs.Running.{Setting}
+use Rattle.pac_debug_session.specs.RunningLaws.{outputs_from}
 use Rattle.pac_debug_session.specs.Session.{SessionValue}
 use Rattle.pac_debug_session.specs.SessionLaws.{IsSessionOfferRefused, session_at_command, session_due_outputs}
 use Rattle.pac_debug.specs.declared.line.CommandFault.{CommandFault}
 use Rattle.pac_debug.specs.declared.line.CommandFault.TheVariants as faults
 use Rattle.pac_debug.specs.ObeyingLaws.{Scene, ObeysLines}
-use Rattle.pac_debug.specs.WatchedLaws.{IsFurther, GaveAll, outputs_until, TookTold, outputs_to_give, IsSessionWatched}
-use Rattle.pac_debug.specs.WatchedProofs.{LinesGive}
-use Rattle.pac_debug.specs.WatchedLaws.{IsWatchRefused}
+use Rattle.pac_debug.specs.WatchedLaws.{IsFurther, GaveAll, outputs_until, TookTold, outputs_to_give, IsSessionWatched, IsWatchRefused}
 use Rattle.pac_debug.specs.WatchedLaws.{WatchesSession}
+use Rattle.pac_debug.specs.WatchedProofs.{LinesGive}
 use Rattle.pac_debug.proofs.Giving.{all-to-give, some-after, finish-given, lines-given}
 use Rattle.pac_debug.proofs.Telling.{lines-told, lines-refused, lines-untold}
 
@@ -54,20 +51,7 @@ module _ {S W : Type 0} (to : Giving S) (wrote : W → List ℕ → W → Type 0
       let given = outputs_to_give mid.session in
       let all : gave.taken ++ given ≡ outputs_to_give old.session
       = sym (append_assoc gave.taken (session_due_outputs mid.session) (outputs_from mid.session.setting mid.session.furthest))
-      ∙ all-to-give old.session mid.session gave.taken gave.further gave.parts in
-      record {
-        between = mid.session;
-        told = told.text;
-        lines = told.tells;
-        text = told.words;
-        outcome = outcome-of mid.session old.session outcome same finish.outcome_is;
-        sink =
-            subst (λ xs. TookAll to.took old.sink xs later) all
-            (took-both to.took gave.taken given old.sink mid.sink later gave.sink_is finish.sink_is);
-        rest =
-            subst (λ (run : Setting). IsLeast (λ index. not (goes_at run index)) mid.session.index end.index) same finish.rest;
-        session = finish.session;
-      }
+      ∙ all-to-give old.session mid.session gave.taken gave.further gave.parts in grind (arith, outcome-of, took-both)
 
   -- all lines were answered, and the sink refused on the way to the end
   pub held-up : (done : Unit {0}) → ObeysLines to wrote balked lines old (Ok done) mid

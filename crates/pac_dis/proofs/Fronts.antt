@@ -1,25 +1,15 @@
 -- The instruction at the front of some bytes, found in their first four.
-use Rattle.std.proofs.Common.{◌≡◌, ℕ, zero, suc, ◌≤◌, ◌<◌, Some, None, List, [], ◌∷◌, length, take, refl, sym, ◌∙◌}
-use Rattle.std.proofs.Common.{ap, arith}
+use Rattle.std.proofs.lemmas.Grind.{common_steps}
+use Rattle.std.proofs.Common.{◌≡◌, ℕ, ◌≤◌, ◌<◌, Some, None, List, length, take, sym, ◌∙◌, ap, arith, rules}
 use Rattle.std.specs.Prelude.{option_and_then}
 use Rattle.std.proofs.lemmas.List.{length-take}
-use Rattle.std.proofs.lemmas.Bool.{cond-true, cond-false, le-leb, lt-leb}
 use Rattle.pac_table.specs.Instructions.{Instruction, code, decoded_instruction}
 use Rattle.pac_code.specs.Codes.{Begins}
 use Rattle.pac_dis.specs.Front.{first_four, fitting_instruction, front_instruction}
 
 -- a front of the bytes that is no longer than four is one of the four
 take-first_four : (n : ℕ) (bytes : List ℕ) → n ≤ 4 → n ≤ length bytes → take n (first_four bytes) ≡ take n bytes
-take-first_four zero bytes most within = refl
-take-first_four (suc n) [] most within = absurd (omega (arith, within))
-take-first_four (suc zero) (a ∷ rest) most within = refl
-take-first_four (suc (suc n)) (a ∷ []) most within = absurd (omega (arith, within))
-take-first_four (suc (suc zero)) (a ∷ b ∷ rest) most within = refl
-take-first_four (suc (suc (suc n))) (a ∷ b ∷ []) most within = absurd (omega (arith, within))
-take-first_four (suc (suc (suc zero))) (a ∷ b ∷ c ∷ rest) most within = refl
-take-first_four (suc (suc (suc (suc n)))) (a ∷ b ∷ c ∷ []) most within = absurd (omega (arith, within))
-take-first_four (suc (suc (suc (suc zero)))) (a ∷ b ∷ c ∷ d ∷ rest) most within = refl
-take-first_four (suc (suc (suc (suc (suc n))))) (a ∷ b ∷ c ∷ d ∷ rest) most within = absurd (omega (arith, most))
+take-first_four n bytes most within = grind (arith, common_steps)
 
 -- a code that bytes begin with lies within them
 pub begins-within : (prefix bytes : List ℕ) → Begins prefix bytes → length prefix ≤ length bytes
@@ -38,14 +28,12 @@ first_four-begins prefix bytes most within begins = sym (take-first_four (length
 pub front-found : (bytes : List ℕ) (i : Instruction) → decoded_instruction (first_four bytes) ≡ Some i → length (code i) ≤ length bytes →
     Some i ≡ front_instruction bytes
 unfolding front_instruction
-front-found bytes i is within =
-    sym (ap (option_and_then (fitting_instruction (length bytes))) is ∙ cond-true _ _ _ (le-leb (length (code i)) (length bytes) within))
+front-found bytes i is within = search rules
 
 pub front-cut : (bytes : List ℕ) (i : Instruction) → decoded_instruction (first_four bytes) ≡ Some i → length bytes < length (code i) →
     None ≡ front_instruction bytes
 unfolding front_instruction
-front-cut bytes i is beyond =
-    sym (ap (option_and_then (fitting_instruction (length bytes))) is ∙ cond-false _ _ _ (lt-leb (length (code i)) (length bytes) beyond))
+front-cut bytes i is beyond = search rules
 
 pub front-none : (bytes : List ℕ) → decoded_instruction (first_four bytes) ≡ None → None ≡ front_instruction bytes
 unfolding front_instruction

@@ -1,16 +1,14 @@
 -- How long texts are: that of an instruction has 16 bytes at most.
-use Rattle.std.proofs.Common.{◌≡◌, ℕ, zero, suc, ◌+◌, ◌*◌, ◌/◌, ◌<◌, ◌≤◌, ℤ, pos, negsuc, Bool, true, false, nat_le, nat_lt, if◌then◌else◌}
-use Rattle.std.proofs.Common.{Option, Some, None, List, [], ◌∷◌, ◌++◌, length, get_or, not, ◌||◌, refl, sym, ap, subst, arith}
-use Rattle.std.specs.Prelude.{map, unwrap_or, codes, max}
+use Rattle.std.proofs.Common.{◌≡◌, ℕ, suc, ◌+◌, ◌/◌, ◌<◌, ◌≤◌, ℤ, Bool, true, false, nat_le, nat_lt, if◌then◌else◌}
+use Rattle.std.proofs.Common.{Option, None, List, [], ◌∷◌, length, get_or, not, ◌||◌, refl, arith, rules}
+use Rattle.std.specs.Prelude.{map, unwrap_or, max}
 use Rattle.std.specs.Option.{option_map_or}
 use Rattle.std.specs.List.{list_all}
 use Rattle.std.proofs.lemmas.List.{length-append}
-use Rattle.std.proofs.lemmas.Bool.{leb-true, ltb-true, cond-true, lt-ltb, and_parts}
+use Rattle.std.proofs.lemmas.Bool.{leb-true, ltb-true}
 use Rattle.std.proofs.lemmas.Int.{ints}
 use Rattle.pac_lemmas.proofs.Searches.{list_all-get_or}
-use Rattle.pac_table.proofs.Uniqueness.{size-le}
 use Rattle.pac_table.specs.declared.patterns.Immediate.{Immediate}
-use Rattle.pac_table.specs.declared.patterns.Immediate.TheVariants as immediate
 use Rattle.pac_table.specs.declared.operands.Mnemonic.{Mnemonic}
 use Rattle.pac_table.specs.declared.operands.Mnemonic.TheVariants as mnemonic
 use Rattle.pac_table.specs.declared.operands.Name.TheVariants as name
@@ -23,24 +21,21 @@ use Rattle.pac_table.specs.declared.operands.NumberKind.TheVariants as kind
 use Rattle.pac_table.specs.declared.operands.Shape.TheVariants.{Absent, Named, AlternateAf, AtName, FirstField, SecondField}
 use Rattle.pac_table.specs.declared.operands.Shape.TheVariants.{Indexed, Number, AtNumber}
 use Rattle.pac_table.specs.declared.table.Row.{Row}
-use Rattle.pac_table_names.specs.Names.{text_of_name, names_in, name_at, has_accumulator}
-use Rattle.pac_table_names.specs.Names.{present_shape, listed_shapes}
+use Rattle.pac_table_names.specs.Names.{text_of_name, names_in, has_accumulator, present_shape, listed_shapes}
 use Rattle.pac_table.specs.Mnemonics.{is_family, names_of, operation_name}
-use Rattle.pac_table.specs.Patterns.{lists, field_size, IsDisplacement, IsSignedByte}
+use Rattle.pac_table.specs.Patterns.{lists, IsDisplacement, IsSignedByte}
 use Rattle.pac_table.specs.Table.{table}
 use Rattle.pac_table.specs.Instructions.{Instruction, IsInstruction, row_at, operands_of, pattern_of}
 use Rattle.pac_table.proofs.TableRules.{row-passes}
 use Rattle.pac_num.specs.Hexadecimal.{hex_byte, hex_word}
 use Rattle.pac_dis.specs.Numerals.{leading_zero, byte_text, word_text, displacement_text}
-use Rattle.pac_dis.specs.Texts.{number_text, name_text, in_parentheses, operand_text}
-use Rattle.pac_dis.specs.Texts.{blank_code, comma_code, marked_operands, operand_texts, instruction_text}
-use Rattle.pac_dis.specs.Texts.{operation_text}
+use Rattle.pac_dis.specs.Texts.{number_text, name_text, in_parentheses, operand_text, blank_code, comma_code, marked_operands}
+use Rattle.pac_dis.specs.Texts.{operand_texts, instruction_text, operation_text}
 
 -- ---- numbers
 
 length-zero-le : (first : ℕ) (b : Bool) → nat_lt first 10 ≡ b → length (leading_zero first) ≤ 1
-length-zero-le first true is = rw is (omega arith)
-length-zero-le first false is = rw is (omega arith)
+length-zero-le first b is = search rules
 
 length-hex-byte : (byte : ℕ) → length (hex_byte byte) ≡ 2
 unfolding hex_byte
@@ -61,18 +56,11 @@ length-word-le word = simp length-append (omega (arith, length-zero-le (word / 4
 -- a byte below A0H has no leading zero
 length-low-byte : (byte : ℕ) → byte < 160 → length (byte_text byte) ≡ 3
 unfolding byte_text hex_byte
-length-low-byte byte below =
-    let first : byte / 16 < 10 = omega (arith, below) in
-    ap (λ (zero : List ℕ). length (zero ++ hex_byte byte ++ codes "H")) (cond-true _ _ _ (lt-ltb (byte / 16) 10 first))
+length-low-byte byte below = search rules
 
 pub length-displacement-le : (d : ℤ) → IsSignedByte d → length (displacement_text d) ≤ 4
 unfolding displacement_text
-length-displacement-le (pos d) is =
-    let below : d < 160 = omega (arith, ints, is.1) in
-    simp length-append (omega (arith, length-low-byte d below))
-length-displacement-le (negsuc d) is =
-    let below : d + 1 < 160 = omega (arith, ints, is.0) in
-    simp length-append (omega (arith, length-low-byte (d + 1) below))
+length-displacement-le d is = grind (arith, ints, length-append, length-low-byte)
 
 -- ---- operands
 
@@ -86,12 +74,7 @@ longest_number kind.Restart = 4
 longest_number (kind.Mode number) = 1
 
 length-number-le : (at : ℕ) (i : Instruction) (some : NumberKind) → length (number_text at i some) ≤ longest_number some
-length-number-le at i kind.Byte = length-byte-le i.word
-length-number-le at i kind.Word = length-word-le i.word
-length-number-le at i kind.Target = length-word-le _
-length-number-le at i kind.Bit = omega arith
-length-number-le at i kind.Restart = length-byte-le (8 * i.p)
-length-number-le at i (kind.Mode number) = omega arith
+length-number-le at i some = grind (arith, length-byte-le, length-word-le)
 
 -- the most bytes that an entry of a list has, where some have none
 abbrev longest : {A : Type 0} → (A → ℕ) → List (Option A) → ℕ
@@ -100,16 +83,14 @@ longest size_of (entry ∷ entries) = max (option_map_or size_of entry 0) (longe
 
 entry-le : {A : Type 0} (size_of : A → ℕ) (entries : List (Option A)) (k : ℕ) →
     option_map_or size_of (get_or entries k None) 0 ≤ longest size_of entries
-entry-le size_of [] k = omega arith
-entry-le size_of (entry ∷ entries) zero = omega arith
 entry-le size_of (entry ∷ entries) (suc k) = omega (arith, entry-le size_of entries k)
+entry-le size_of entries k = omega arith
 
 abbrev name_length : Name → ℕ
 name_length name = length (text_of_name name)
 
 length-name : (name : Option Name) → length (name_text name) ≡ option_map_or name_length name 0
-length-name None = refl
-length-name (Some name) = refl
+length-name name = search rules
 
 -- the most bytes that an operand has
 abbrev longest_operand : Shape → ℕ
@@ -128,24 +109,8 @@ length-in-parentheses inner = simp length-append (omega arith)
 
 length-operand-le : (at : ℕ) (i : Instruction) (some : Shape) → IsSignedByte i.disp →
     length (operand_text at i some) ≤ longest_operand some
-length-operand-le at i Absent is = omega arith
-length-operand-le at i (Named name) is = omega arith
-length-operand-le at i AlternateAf is = omega arith
-length-operand-le at i (AtName name) is = omega (arith, length-in-parentheses (text_of_name name))
-length-operand-le at i (FirstField names) is =
-    omega (arith, length-name (name_at names i.p), entry-le name_length (names_in names) i.p)
-length-operand-le at i (SecondField names) is =
-    omega (arith, length-name (name_at names i.q), entry-le name_length (names_in names) i.q)
-length-operand-le at i (Indexed name) is =
-    omega (
-      arith,
-      length-in-parentheses (text_of_name name ++ displacement_text i.disp),
-      length-append (text_of_name name) (displacement_text i.disp),
-      length-displacement-le i.disp is,
-    )
-length-operand-le at i (Number some) is = length-number-le at i some
-length-operand-le at i (AtNumber some) is =
-    omega (arith, length-in-parentheses (number_text at i some), length-number-le at i some)
+length-operand-le at i some is =
+    grind (arith, entry-le, length-append, length-displacement-le, length-in-parentheses, length-name, length-number-le)
 
 -- ---- operands one after another
 
@@ -181,8 +146,7 @@ accumulator_room mnemonic.Alu = 2
 accumulator_room _ = 0
 
 has-room : (some : Mnemonic) (value : ℕ) → has_accumulator some value ≡ true → accumulator_room some ≡ 2
-has-room mnemonic.Alu value is = refl
-has-room some value is = absurd (cc)
+has-room some value is = search rules
 
 room-written : (at : ℕ) (i : Instruction) (form : Operands) (b : Bool) → IsSignedByte i.disp → has_accumulator form.mnemonic i.p ≡ b →
     room (map (operand_text at i) (if b then listed_shapes (shape.Named name.A) form.first else listed_shapes form.first form.second)) ≤
@@ -209,12 +173,7 @@ rows-fit = refl
 
 -- d and e are signed bytes; where a row has neither, 0
 signed-displacement : (some : Immediate) (d : ℤ) → IsDisplacement some d → IsSignedByte d
-signed-displacement immediate.Absent d is = subst IsSignedByte (sym is) (omega (arith, ints), omega (arith, ints))
-signed-displacement immediate.Byte d is = subst IsSignedByte (sym is) (omega (arith, ints), omega (arith, ints))
-signed-displacement immediate.Word d is = subst IsSignedByte (sym is) (omega (arith, ints), omega (arith, ints))
-signed-displacement immediate.Relative d is = is
-signed-displacement immediate.Displacement d is = is
-signed-displacement immediate.DisplacementByte d is = is
+signed-displacement some d is = search rules
 
 pub is-signed : (i : Instruction) → IsInstruction i → IsSignedByte i.disp
 is-signed i is = signed-displacement (pattern_of i).immediate i.disp is.disp
@@ -223,8 +182,7 @@ abbrev size_of_name : List ℕ → ℕ
 size_of_name name = length name
 
 length-operation : (name : Option (List ℕ)) → length (unwrap_or name []) ≡ option_map_or size_of_name name 0
-length-operation None = refl
-length-operation (Some name) = refl
+length-operation name = search rules
 
 operation-le : (some : Mnemonic) (value : ℕ) →
     option_map_or size_of_name (operation_name some value) 0 ≤ longest size_of_name (names_of some)
@@ -272,33 +230,17 @@ unfolding table
 rows-are-named = refl
 
 eight-at : (k : ℕ) → k < 8 → get_or first_eight k 0 ≡ k
-eight-at zero below = refl
-eight-at (suc zero) below = refl
-eight-at (suc (suc zero)) below = refl
-eight-at (suc (suc (suc zero))) below = refl
-eight-at (suc (suc (suc (suc zero)))) below = refl
-eight-at (suc (suc (suc (suc (suc zero))))) below = refl
-eight-at (suc (suc (suc (suc (suc (suc zero)))))) below = refl
-eight-at (suc (suc (suc (suc (suc (suc (suc zero))))))) below = refl
-eight-at (suc (suc (suc (suc (suc (suc (suc (suc k)))))))) below = absurd (omega (arith, below))
+eight-at k below = search rules
 
 -- the first field holds a number below 8
 field-below : (i : Instruction) → IsInstruction i → i.p < 8
-field-below i is =
-    let within : i.p < field_size (pattern_of i).first = ltb-true _ _ (and_parts _ _ is.first).0 in
-    omega (arith, within, size-le (pattern_of i).first)
+field-below i is = search rules
 
 second-of-or : (a b : Bool) → a ≡ true → (not a || b) ≡ true → b ≡ true
-second-of-or true b is either = either
-second-of-or false b is either = absurd (cc)
+second-of-or a b is either = search rules
 
 pub operation-named : (i : Instruction) → IsInstruction i → 0 < length (operation_text i)
-operation-named i is =
-    let named : is_named (row_at i.row) (get_or first_eight i.p 0) ≡ true =
-    list_all-get_or (is_named (row_at i.row)) first_eight i.p 0 (row-passes row_is_named rows-are-named i.row is.row) (field-below i is) in
-    let at_field : is_named (row_at i.row) i.p ≡ true =
-    subst (λ (n : ℕ). is_named (row_at i.row) n ≡ true) (eight-at i.p (field-below i is)) named in
-    ltb-true 0 _ (second-of-or _ _ is.first at_field)
+operation-named i is = grind (arith, eight-at, field-below, list_all-get_or, ltb-true, row-passes, rows-are-named, second-of-or)
 
 -- an instruction's text has a byte at least
 pub text-shown : (at : ℕ) (i : Instruction) → IsInstruction i → 0 < length (instruction_text at i)

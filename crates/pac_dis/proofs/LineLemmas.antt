@@ -1,5 +1,6 @@
 -- Lines one after another.
-use Rattle.std.proofs.Common.{◌≡◌, ℕ, zero, suc, ◌+◌, ◌-◌, ◌<◌, ◌≤◌, List, [], ◌∷◌, ◌++◌, length, drop, refl, ap, ◌∙◌, arith}
+use Rattle.std.proofs.Common.{rules, ◌≡◌, ℕ, zero, suc, ◌+◌, ◌-◌, ◌<◌, ◌≤◌, List, [], ◌∷◌, ◌++◌, length, drop, refl, ap, arith}
+use Rattle.std.proofs.lemmas.Grind.{common_steps}
 use Rattle.pac_num.specs.Numbers.{wrapped_address}
 use Rattle.pac_dis.specs.Texts.{size_at}
 use Rattle.pac_dis.specs.Lines.{line_text, lines_after}
@@ -20,8 +21,7 @@ unfolding lines_after
 lines-later zero at bytes below = ap (λ a. lines_after 0 a bytes) (address-same at below)
 lines-later (suc shown) at [] below = refl
 lines-later (suc shown) at (byte ∷ bytes) below =
-    lines-later shown (wrapped_address (at + 1)) bytes (address-below (at + 1))
-    ∙ ap (λ a. lines_after 0 a (drop shown bytes)) (address-further at shown)
+    cc (lines-later shown (wrapped_address (at + 1)) bytes (address-below (at + 1)), address-further at shown)
 
 -- what follows the line that bytes begin with
 abbrev pub later_lines : ℕ → List ℕ → List ℕ
@@ -30,25 +30,13 @@ later_lines at bytes = lines_after (size_at bytes - 1) (wrapped_address (at + 1)
 -- bytes that are left begin a line
 pub lines-more : (at : ℕ) (bytes : List ℕ) → 0 < length bytes → lines_after 0 at bytes ≡ line_text at bytes ++ later_lines at bytes
 unfolding lines_after
-lines-more at [] more = absurd (omega (arith, more))
-lines-more at (byte ∷ bytes) more = refl
+lines-more at bytes more = search rules
 
 -- and what follows is the lines of the bytes that it doesn't show
 pub lines-rest : (at size : ℕ) (bytes : List ℕ) → size ≡ size_at bytes → 1 ≤ size
     → later_lines at bytes ≡ lines_after 0 (wrapped_address (at + size)) (drop size bytes)
-lines-rest at zero bytes is some = absurd (omega (arith, some))
-lines-rest at (suc size) bytes is some =
-    let one_less : size_at bytes - 1 ≡ size = omega (arith, is) in
-    ap (λ n. lines_after n (wrapped_address (at + 1)) (drop 1 bytes)) one_less
-    ∙ lines-later size (wrapped_address (at + 1)) (drop 1 bytes) (address-below (at + 1))
-    ∙ (λ i. lines_after 0 (address-further at size i) (drop-more size bytes i))
-  where
-    drop-more : (n : ℕ) (xs : List ℕ) → drop n (drop 1 xs) ≡ drop (suc n) xs
-    drop-more zero [] = refl
-    drop-more (suc n) [] = refl
-    drop-more n (x ∷ xs) = refl
+lines-rest at size bytes is some = grind (arith, address-below, address-further, lines-later)
 
 pub lines-none : (at : ℕ) (bytes : List ℕ) → length bytes ≡ 0 → lines_after 0 at bytes ≡ []
 unfolding lines_after
-lines-none at [] none = refl
-lines-none at (byte ∷ bytes) none = absurd (omega (arith, none))
+lines-none at bytes none = grind (arith, common_steps)

@@ -1,5 +1,6 @@
 -- What is shown of some bytes, by what they begin with.
-use Rattle.std.proofs.Common.{◌≡◌, ◌∙◌, ◌≤◌, ℕ, List, length, Option, Some, None, is_some, refl, sym, ap, subst, true≢false}
+use Rattle.std.proofs.Common.{rules, arith, ◌≡◌, ◌≤◌, ℕ, List, length, Option, Some, None, sym, subst}
+use Rattle.std.proofs.lemmas.Grind.{common_steps}
 use Rattle.std.specs.Prelude.{slice_index}
 use Rattle.pac_code.specs.Codes.{Begins}
 use Rattle.pac_table.specs.Instructions.{Instruction, IsInstruction, code}
@@ -12,15 +13,7 @@ pub shows-instruction : (at : ℕ) (bytes text : List ℕ) (i : Instruction) (si
     → ((j : Instruction) → IsInstruction j → Begins (code j) bytes
     → ◌≡◌ {A = Option (Instruction × ℕ)} (Some (i, size)) (Some (j, length (code j))))
     → text ≡ instruction_text at i → Disassembles at bytes text size
-shows-instruction at bytes text i size valid begins only is = record {
-  found = λ j starts.
-      let same : ◌≡◌ {A = Instruction × ℕ} (i, size) (j, length (code j)) = first-of _ _ (only j starts.0 starts.1) in
-      (is ∙ ap (λ (p : Instruction × ℕ). instruction_text at p.0) same, ap (λ (p : Instruction × ℕ). p.1) same);
-  alone = λ none. absurd (none i (valid, begins));
-}
-  where
-    first-of : (p q : Instruction × ℕ) → Some p ≡ Some q → p ≡ q
-    first-of p q e = cc
+shows-instruction at bytes text i size valid begins only is = grind (arith, common_steps)
 
 -- which lies in the bytes
 pub shown-within : (bytes : List ℕ) (i : Instruction) (size : ℕ) → Begins (code i) bytes → size ≡ length (code i) → size ≤ length bytes
@@ -30,7 +23,4 @@ shown-within bytes i size begins is = subst (λ n. n ≤ length bytes) (sym is) 
 pub shows-byte : (at : ℕ) (bytes text : List ℕ)
     → ((j : Instruction) → IsInstruction j → Begins (code j) bytes → ◌≡◌ {A = Option (Instruction × ℕ)} None (Some (j, length (code j))))
     → text ≡ data_text (slice_index bytes 0) → Disassembles at bytes text 1
-shows-byte at bytes text none is = record {
-  found = λ j starts. absurd (true≢false (ap is_some (sym (none j starts.0 starts.1))));
-  alone = λ _. (is, refl);
-}
+shows-byte at bytes text none is = search rules

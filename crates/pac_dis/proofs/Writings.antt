@@ -1,8 +1,7 @@
 -- The operands of an instruction one after another, and the numbers that are written in them.
-use Rattle.std.proofs.Common.{◌≡◌, ◌<◌, Bool, true, false, ◌&&◌, nat_le, nat_lt, if◌then◌else◌}
-use Rattle.std.proofs.Common.{refl, arith}
+use Rattle.std.proofs.Common.{◌≡◌, ◌<◌, Bool, true, ◌&&◌, nat_le, nat_lt, if◌then◌else◌, rules, refl}
 use Rattle.std.specs.List.{list_all}
-use Rattle.std.proofs.lemmas.Bool.{and_parts, leb-true, ltb-true}
+use Rattle.std.proofs.lemmas.Bool.{and_parts}
 use Rattle.pac_table.specs.declared.patterns.Immediate.{Immediate}
 use Rattle.pac_table.specs.declared.operands.Name.TheVariants as name
 use Rattle.pac_table.specs.declared.operands.Shape.{Shape}
@@ -11,7 +10,7 @@ use Rattle.pac_table.specs.declared.operands.NumberKind.{NumberKind}
 use Rattle.pac_table.specs.declared.operands.NumberKind.TheVariants as kind
 use Rattle.pac_table.specs.declared.operands.Shape.TheVariants.{Number, AtNumber}
 use Rattle.pac_table.specs.declared.table.Row.{Row}
-use Rattle.pac_table_names.specs.Names.{present_shape, listed_shapes, written_operands}
+use Rattle.pac_table_names.specs.Names.{listed_shapes, written_operands}
 use Rattle.pac_table.specs.Patterns.{word_limit}
 use Rattle.pac_table.specs.Table.{table}
 use Rattle.pac_table.specs.Instructions.{Instruction, IsInstruction, operands_of, pattern_of}
@@ -42,38 +41,21 @@ rows-have-range = refl
 
 is-shown : (i : Instruction) (some : Immediate) (number : NumberKind) → i.word < word_limit some → in_range some number ≡ true →
     IsShown i number
-is-shown i some kind.Byte below is = omega (arith, below, leb-true (word_limit some) 256 is)
-is-shown i some kind.Word below is = tt
-is-shown i some kind.Target below is = tt
-is-shown i some kind.Bit below is = tt
-is-shown i some kind.Restart below is = tt
-is-shown i some (kind.Mode number) below is = ltb-true number 10 is
+is-shown i some number below is = search rules
 
 shows-numbers : (i : Instruction) (some : Immediate) (writing : Shape) → i.word < word_limit some → has_range some writing ≡ true →
     ShowsNumbers i writing
-shows-numbers i some (Number number) below is = is-shown i some number below is
-shows-numbers i some (AtNumber number) below is = is-shown i some number below is
-shows-numbers i some _ below is = tt
+shows-numbers i some writing below is = search rules
 
 ranges : (i : Instruction) → IsInstruction i →
     (has_range (pattern_of i).immediate (operands_of i).first ≡ true) ×
     (has_range (pattern_of i).immediate (operands_of i).second ≡ true)
 ranges i is = and_parts _ _ (row-passes row_has_range rows-have-range i.row is.row)
 
-shows-present : (i : Instruction) (some : Shape) → ShowsNumbers i some → ShowsEach i (present_shape some)
-shows-present i shape.Absent shows = tt
-shows-present i some shows = (shows, tt)
-
-shows-listed : (i : Instruction) (first second : Shape) → ShowsNumbers i first → ShowsNumbers i second →
-    ShowsEach i (listed_shapes first second)
-shows-listed i shape.Absent second shows more = tt
-shows-listed i first second shows more = (shows, shows-present i second more)
-
 shows-written : (i : Instruction) (form : Operands) (b : Bool) →
     ShowsNumbers i form.first → ShowsNumbers i form.second →
     ShowsEach i (if b then listed_shapes (shape.Named name.A) form.first else listed_shapes form.first form.second)
-shows-written i form true shows more = shows-listed i (shape.Named name.A) form.first tt shows
-shows-written i form false shows more = shows-listed i form.first form.second shows more
+shows-written i form b shows more = search rules
 
 -- each number that is written in an instruction of the table is in range
 pub shows-each : (i : Instruction) → IsInstruction i → ShowsEach i (written_operands (operands_of i) i.p)

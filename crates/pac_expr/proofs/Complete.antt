@@ -1,22 +1,18 @@
 -- The tokens of each ranked tree give that tree back: so no two of them have one spelling.
+use Rattle.std.proofs.lemmas.Grind.{common_steps}
 use Rattle.std.proofs.Common.{◌≡◌, ◌↔◌, ℕ, ℤ, ◌-◌, ◌<◌, ◌≤◌, List, [], ◌∷◌, ◌++◌, Option, Some, None, IfSome, option_map}
-use Rattle.std.proofs.Common.{refl, sym, ap, ◌∙◌, arith, append_assoc, append-nil}
-use Rattle.std.proofs.lemmas.Bool.{le-leb, lt-leb}
+use Rattle.std.proofs.Common.{refl, sym, ap, ◌∙◌, arith, append_assoc, append-nil, rules}
+use Rattle.std.proofs.lemmas.Bool.{le-leb}
 use Rattle.pac_expr.specs.declared.expr.Sign.{Sign}
-use Rattle.pac_expr.specs.declared.expr.Sign.TheVariants as signs
 use Rattle.pac_expr.specs.declared.expr.Operator.{Operator}
-use Rattle.pac_expr.specs.declared.expr.Operator.TheVariants.{Add, Subtract, Multiply, Divide}
 use Rattle.pac_expr.specs.Trees.{Tree, atom, group, signed, joined, Mark, closing, sign_mark, arithmetic, spelling, rank_of_operator}
-use Rattle.pac_expr.specs.Trees.{sum_rank}
-use Rattle.pac_expr.specs.Trees.{IsRanked}
+use Rattle.pac_expr.specs.Trees.{sum_rank, IsRanked}
 use Rattle.pac_expr.specs.TreesProofs.{IsExpression, token_marks}
 use Rattle.pac_expr.specs.Values.{ValueResult, tree_value}
 use Rattle.pac_expr.specs.ValuesProofs.{HasValue}
 use Rattle.pac_lex.specs.declared.token.Token.{Token}
-use Rattle.pac_expr.specs.ParsingProofs.{Waiting, sign, left, parenthesis, settled_operand, needs, stands, state_after_operator}
-use Rattle.pac_expr.specs.ParsingProofs.{closed_group}
-use Rattle.pac_expr.specs.ParsingProofs.{whole_tree, tree_onward, tree_of}
-use Rattle.pac_expr.specs.ParsingProofs.{completed_tree, waiting_rank}
+use Rattle.pac_expr.specs.ParsingProofs.{Waiting, sign, left, parenthesis, settled_operand, needs, stands, state_after_operator, whole_tree}
+use Rattle.pac_expr.specs.ParsingProofs.{tree_onward, tree_of, completed_tree, waiting_rank}
 use Rattle.pac_expr.specs.Reading.{highest_rank}
 use Rattle.pac_expr.proofs.Sound.{found}
 
@@ -25,17 +21,10 @@ pub settled-more : (n : ℕ) (t : Tree) (w : Waiting) (waiting : List Waiting) �
     → settled_operand n t (w ∷ waiting) ≡ settled_operand n (completed_tree w t) waiting
 settled-more n t w waiting low = rw (le-leb (waiting_rank w) n low)
 
-pub settled-here : (n : ℕ) (t : Tree) (w : Waiting) (waiting : List Waiting) → n < waiting_rank w
-    → settled_operand n t (w ∷ waiting) ≡ (t, w ∷ waiting)
-settled-here n t w waiting high = rw (lt-leb (waiting_rank w) n high)
-
 -- nothing is completed that binds looser
 pub settled-stays : (n : ℕ) (t : Tree) (waiting : List Waiting) → 0 < n → n ≤ highest_rank waiting →
     settled_operand n t waiting ≡ (t, waiting)
-settled-stays n t [] some low = refl
-settled-stays n t (sign s ∷ waiting) some low = absurd (omega arith)
-settled-stays n t (left operator l ∷ waiting) some low = settled-here n t (left operator l) waiting (omega arith)
-settled-stays n t (parenthesis ∷ waiting) some low = settled-here n t parenthesis waiting (omega arith)
+settled-stays n t waiting some low = search rules
 
 -- what the tokens of a tree come to, where it has this rank at most: something that completes as the tree does
 record Comes (t : Tree) (n : ℕ) (waiting : List Waiting) (rest : List Mark) : Type 0 where
@@ -46,40 +35,22 @@ record Comes (t : Tree) (n : ℕ) (waiting : List Waiting) (rest : List Mark) : 
 
 pub sign-runs : (s : Sign) (waiting : List Waiting) (ms : List Mark)
     → tree_onward (Some (needs waiting)) (sign_mark s ∷ ms) ≡ tree_onward (Some (needs (sign s ∷ waiting))) ms
-sign-runs signs.Plus waiting ms = refl
-sign-runs signs.Minus waiting ms = refl
+sign-runs s waiting ms = search rules
 
 pub operator-runs : (operator : Operator) (t : Tree) (waiting : List Waiting) (ms : List Mark)
     → tree_onward (Some (stands t waiting)) (arithmetic operator ∷ ms) ≡ tree_onward (Some (state_after_operator operator t waiting)) ms
-operator-runs Add t waiting ms = refl
-operator-runs Subtract t waiting ms = refl
-operator-runs Multiply t waiting ms = refl
-operator-runs Divide t waiting ms = refl
+operator-runs operator t waiting ms = search rules
 
 pub some-rank : (operator : Operator) → 0 < rank_of_operator operator
-some-rank Add = omega arith
-some-rank Subtract = omega arith
-some-rank Multiply = omega arith
-some-rank Divide = omega arith
+some-rank operator = search rules
 
 group-comes : (t : Tree) (n : ℕ) (waiting : List Waiting) (rest : List Mark) → Comes t sum_rank (parenthesis ∷ waiting) (closing ∷ rest)
     → Comes (group t) n waiting rest
-group-comes t n waiting rest h = record {
-  tree = group t;
-  before = waiting;
-  runs = ap (tree_onward (Some (needs (parenthesis ∷ waiting)))) (append_assoc (spelling t) (closing ∷ []) rest) ∙ h.runs
-      ∙ ap (λ (s : Tree × List Waiting). tree_onward (closed_group s) rest) (h.settles sum_rank (omega arith));
-  settles = λ k low. refl;
-}
+group-comes t n waiting rest h = grind (arith, common_steps)
 
 sign-comes : (s : Sign) (t : Tree) (n : ℕ) (waiting : List Waiting) (rest : List Mark) → Comes t 0 (sign s ∷ waiting) rest
     → Comes (signed s t) n waiting rest
-sign-comes s t n waiting rest h = record {
-  tree = h.tree;
-  before = h.before;
-  runs = sign-runs s waiting (spelling t ++ rest) ∙ h.runs;
-  settles = λ k low. h.settles k (omega arith) ∙ settled-more k t (sign s) waiting (omega arith);
-}
+sign-comes s t n waiting rest h = search rules
 
 joined-comes : (operator : Operator) (l r : Tree) (n : ℕ) (waiting : List Waiting) (rest : List Mark) → rank_of_operator operator ≤ n →
     n ≤ highest_rank waiting
@@ -91,8 +62,7 @@ joined-comes operator l r n waiting rest low most hl hr = record {
   runs = ap (tree_onward (Some (needs waiting))) (append_assoc (spelling l) (arithmetic operator ∷ spelling r) rest) ∙ hl.runs
       ∙ operator-runs operator hl.tree hl.before (spelling r ++ rest)
       ∙ ap (λ (s : Tree × List Waiting). tree_onward (Some (needs (left operator s.0 ∷ s.1))) (spelling r ++ rest))
-      (hl.settles (rank_of_operator operator) (omega arith)
-      ∙ settled-stays (rank_of_operator operator) l waiting (some-rank operator) (omega arith))
+      (grind (arith, settled-stays, some-rank))
       ∙ hr.runs;
   settles = λ k high. hr.settles k (omega arith) ∙ settled-more k r (left operator l) waiting (omega arith);
 }

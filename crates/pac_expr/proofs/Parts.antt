@@ -1,19 +1,20 @@
 -- How parts of an expression join.
+use Rattle.std.proofs.lemmas.Grind.{common_steps}
 use Rattle.std.proofs.lemmas.Bool.{eqb-true}
 use Rattle.pac_lex.specs.declared.token.Token.{Token}
 use Rattle.std.proofs.Common.{◌≡◌, ◌==◌, true, false, length, ℕ, ℤ, ◌-◌, ◌≤◌, List, [], ◌∷◌, Option, Some, None, MatchOption, option_map}
-use Rattle.std.proofs.Common.{refl, ap, ap₂, ◌∙◌, arith}
+use Rattle.std.proofs.Common.{refl, ap, ap₂, ◌∙◌, arith, rules}
 use Rattle.pac_expr.specs.declared.expr.Sign.{Sign}
 use Rattle.pac_expr.specs.declared.expr.Sign.TheVariants as signs
 use Rattle.pac_expr.specs.declared.expr.Operator.{Operator}
-use Rattle.pac_expr.specs.declared.expr.Operator.TheVariants.{Add, Subtract, Multiply, Divide}
-use Rattle.pac_expr.specs.Trees.{Atom, Tree, atom, group, signed, joined, Mark, single, opening, closing, arithmetic, other}
+use Rattle.pac_expr.specs.declared.expr.Operator.TheVariants.{Add}
+use Rattle.pac_expr.specs.Trees.{Atom, Tree, atom, group, signed, joined, Mark, single, opening, closing, arithmetic}
 use Rattle.pac_expr.specs.Trees.{sign_mark, rank_of_operator, sum_rank}
 use Rattle.pac_expr.specs.TreesProofs.{token_marks}
 use Rattle.pac_expr.specs.ParsingProofs.{Waiting, sign, left, parenthesis, needs, stands, tree_onward, tree_of}
 use Rattle.pac_expr.specs.Values.{ValueResult, atom_value, sign_value, joined_value, tree_value}
 use Rattle.pac_expr.specs.Reading.{highest_rank, BeginsWithTree, BeginsNoTree, EndsTree, atom_in}
-use Rattle.pac_expr.proofs.Complete.{settled-stays, sign-runs, operator-runs, some-rank}
+use Rattle.pac_expr.proofs.Complete.{sign-runs}
 
 -- ---- an operand
 
@@ -23,15 +24,7 @@ single-begins names line a rest = record { tree = atom a; value = refl; goes = �
 
 sign-stands : (s : Sign) (t : Tree) (waiting : List Waiting) (rest : List Mark)
     → tree_onward (Some (stands t (sign s ∷ waiting))) rest ≡ tree_onward (Some (stands (signed s t) waiting)) rest
-sign-stands s t waiting [] = refl
-sign-stands s t waiting (single a ∷ ms) = refl
-sign-stands s t waiting (opening ∷ ms) = refl
-sign-stands s t waiting (closing ∷ ms) = refl
-sign-stands s t waiting (arithmetic Add ∷ ms) = refl
-sign-stands s t waiting (arithmetic Subtract ∷ ms) = refl
-sign-stands s t waiting (arithmetic Multiply ∷ ms) = refl
-sign-stands s t waiting (arithmetic Divide ∷ ms) = refl
-sign-stands s t waiting (other ∷ ms) = refl
+sign-stands s t waiting rest = search rules
 
 pub sign-begins : (names : List ℕ → Option ℤ) (line : ℕ) (s : Sign) (ms : List Mark) (answer : ValueResult) (rest : List Mark)
     → BeginsWithTree names line 0 ms answer rest → BeginsWithTree names line 0 (sign_mark s ∷ ms) (sign_value s answer) rest
@@ -55,34 +48,13 @@ group-begins names line ms answer rest h =
 joined-stands : (operator : Operator) (l r : Tree) (waiting : List Waiting) (rest : List Mark) →
     EndsTree (rank_of_operator operator - 1) rest
     → tree_onward (Some (stands r (left operator l ∷ waiting))) rest ≡ tree_onward (Some (stands (joined operator l r) waiting)) rest
-joined-stands operator l r waiting (single a ∷ ms) e = refl
-joined-stands operator l r waiting (opening ∷ ms) e = refl
-joined-stands operator l r waiting (other ∷ ms) e = refl
-joined-stands Add l r waiting (arithmetic Multiply ∷ ms) e = absurd (omega arith)
-joined-stands Subtract l r waiting (arithmetic Multiply ∷ ms) e = absurd (omega arith)
-joined-stands Add l r waiting (arithmetic Divide ∷ ms) e = absurd (omega arith)
-joined-stands Subtract l r waiting (arithmetic Divide ∷ ms) e = absurd (omega arith)
-joined-stands Add l r waiting rest e = refl
-joined-stands Subtract l r waiting rest e = refl
-joined-stands Multiply l r waiting (arithmetic Add ∷ ms) e = refl
-joined-stands Multiply l r waiting (arithmetic Subtract ∷ ms) e = refl
-joined-stands Multiply l r waiting (arithmetic Multiply ∷ ms) e = refl
-joined-stands Multiply l r waiting (arithmetic Divide ∷ ms) e = refl
-joined-stands Divide l r waiting (arithmetic Add ∷ ms) e = refl
-joined-stands Divide l r waiting (arithmetic Subtract ∷ ms) e = refl
-joined-stands Divide l r waiting (arithmetic Multiply ∷ ms) e = refl
-joined-stands Divide l r waiting (arithmetic Divide ∷ ms) e = refl
-joined-stands Multiply l r waiting rest e = refl
-joined-stands Divide l r waiting rest e = refl
+joined-stands operator l r waiting rest e = search rules
 
 left-runs : (names : List ℕ → Option ℤ) (line n : ℕ) (operator : Operator) (ms : List Mark) (answer : ValueResult) (after : List Mark)
     → (h : BeginsWithTree names line n ms answer (arithmetic operator ∷ after)) → rank_of_operator operator ≤ n → (w : List Waiting) →
     n ≤ highest_rank w
     → tree_onward (Some (needs w)) ms ≡ tree_onward (Some (needs (left operator h.tree ∷ w))) after
-left-runs names line n operator ms answer after h low w roomy =
-    h.goes w roomy ∙ operator-runs operator h.tree w after
-    ∙ ap (λ (s : Tree × List Waiting). tree_onward (Some (needs (left operator s.0 ∷ s.1))) after)
-    (settled-stays (rank_of_operator operator) h.tree w (some-rank operator) (omega arith))
+left-runs names line n operator ms answer after h low w roomy = search rules
 
 pub joined-begins : (names : List ℕ →
     Option ℤ) (line n : ℕ) (operator : Operator) (ms : List Mark) (l r : ValueResult) (after rest : List Mark)
@@ -92,8 +64,7 @@ pub joined-begins : (names : List ℕ →
 joined-begins names line n operator ms l r after rest hl low hr ends = record {
   tree = joined operator hl.tree hr.tree;
   value = ap₂ (joined_value operator) hl.value hr.value;
-  goes = λ w roomy. left-runs names line n operator ms l after hl low w roomy ∙ hr.goes (left operator hl.tree ∷ w) (omega arith)
-      ∙ joined-stands operator hl.tree hr.tree w rest ends;
+  goes = grind (arith, joined-stands, left-runs);
 }
 
 -- ---- the whole expression
@@ -103,24 +74,11 @@ pub whole-value : (names : List ℕ → Option ℤ) (line : ℕ) (ms : List Mark
 unfolding tree_of
 whole-value names line ms answer h = ap (option_map (tree_value names line)) (h.goes [] (omega arith)) ∙ ap Some h.value
 
--- where more follows than the longest part, there is no tree
-more-stands : (t : Tree) (m : Mark) (ms : List Mark) → EndsTree sum_rank (m ∷ ms) → tree_onward (Some (stands t [])) (m ∷ ms) ≡ None
-more-stands t (single a) ms e = refl
-more-stands t opening ms e = refl
-more-stands t closing ms e = refl
-more-stands t (arithmetic Add) ms e = absurd (omega arith)
-more-stands t (arithmetic Subtract) ms e = absurd (omega arith)
-more-stands t (arithmetic Multiply) ms e = absurd (omega arith)
-more-stands t (arithmetic Divide) ms e = absurd (omega arith)
-more-stands t other ms e = refl
-
 pub more-none : (names : List ℕ → Option ℤ) (line : ℕ) (ms : List Mark) (answer : ValueResult) (rest : List Mark)
     → BeginsWithTree names line sum_rank ms answer rest → EndsTree sum_rank rest → (rest ≡ [] → ⊥)
     → option_map (tree_value names line) (tree_of ms) ≡ None
 unfolding tree_of
-more-none names line ms answer [] h ends some = absurd (some refl)
-more-none names line ms answer (m ∷ rest) h ends some =
-    ap (option_map (tree_value names line)) (h.goes [] (omega arith) ∙ more-stands h.tree m rest ends)
+more-none names line ms answer rest h ends some = search rules
 
 pub refused-none : (names : List ℕ → Option ℤ) (line : ℕ) (ms : List Mark) → BeginsNoTree sum_rank ms
     → option_map (tree_value names line) (tree_of ms) ≡ None
@@ -137,13 +95,11 @@ plus-comes names line ms after None answer rest is h = rw is (sign-refused signs
 plus-comes names line ms after (Some r) answer rest is h = rw is (sign-begins names line signs.Plus after (answer r) (rest r) h)
 
 pub atom-found : (m : Mark) (a : Atom) → Some a ≡ atom_in m → m ≡ single a
-atom-found (single b) a e = cc
-atom-found m a e = absurd cc
+atom-found m a e = search rules
 
 pub none-left : (tokens : List Token) → length tokens == 0 ≡ true → token_marks tokens ≡ []
 none-left [] e = refl
 none-left (token ∷ tokens) e = absurd (omega (arith, eqb-true (length (token ∷ tokens)) 0 e))
 
 pub some-left : (tokens : List Token) → length tokens == 0 ≡ false → token_marks tokens ≡ [] → ⊥
-some-left [] e h = cc
-some-left (token ∷ tokens) e h = cc
+some-left tokens e h = grind (arith, common_steps)

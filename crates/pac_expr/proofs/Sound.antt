@@ -1,12 +1,10 @@
 -- What the tokens taken so far spell: a tree that is found is ranked, and the tokens are its.
-use Rattle.std.proofs.Common.{◌≡◌, ℕ, ◌<◌, ◌≤◌, Bool, true, false, cond, List, [], ◌∷◌, ◌++◌, Option, Some, None, IfSome, nat_le, refl}
-use Rattle.std.proofs.Common.{sym, ap, ◌∙◌, arith, append_assoc, append-nil}
-use Rattle.std.proofs.lemmas.Bool.{leb-true, leb-false}
+use Rattle.std.proofs.lemmas.Grind.{common_steps}
+use Rattle.std.proofs.Common.{◌≡◌, ℕ, ◌<◌, ◌≤◌, Bool, cond, List, [], ◌∷◌, ◌++◌, Option, Some, None, IfSome, nat_le, refl}
+use Rattle.std.proofs.Common.{sym, ap, ◌∙◌, arith, append_assoc, append-nil, rules}
 use Rattle.pac_expr.specs.declared.expr.Operator.{Operator}
 use Rattle.pac_expr.specs.declared.expr.Operator.TheVariants.{Add, Subtract, Multiply, Divide}
-use Rattle.pac_expr.specs.Trees.{Tree, Mark, single, opening, closing, arithmetic, sign_mark, spelling}
-use Rattle.pac_expr.specs.Trees.{rank_of_operator}
-use Rattle.pac_expr.specs.Trees.{sum_rank, IsRanked}
+use Rattle.pac_expr.specs.Trees.{Tree, Mark, opening, closing, arithmetic, sign_mark, spelling, rank_of_operator, sum_rank, IsRanked}
 use Rattle.pac_expr.specs.ParsingProofs.{Waiting, sign, left, parenthesis, completed_tree, waiting_rank, settled_operand, ParseState, needs}
 use Rattle.pac_expr.specs.ParsingProofs.{stands, state_after_operator}
 use Rattle.pac_expr.specs.Reading.{highest_rank}
@@ -47,32 +45,19 @@ record Completes (n : ℕ) (t : Tree) (w : Waiting) (waiting : List Waiting) : T
 completes : (n : ℕ) (t : Tree) (w : Waiting) (waiting : List Waiting) → n ≤ sum_rank → Fits (w ∷ waiting) →
     IsRanked (highest_rank (w ∷ waiting)) t
     → waiting_rank w ≤ n → Completes n t w waiting
-completes n t (sign s) waiting most fits r low = record { fits = fits; ranked = r; roomy = r; spells = refl }
-completes n t (left operator l) waiting most (ranked, below, fits) r low =
-    let spells = append_assoc (spelling l) (arithmetic operator ∷ []) (spelling t) in
-    record { fits = fits; ranked = (low, ranked, r); roomy = (below, ranked, r); spells = spells }
-completes n t parenthesis waiting most fits r low = absurd (omega arith)
+completes n t w waiting most fits r low = grind (arith, common_steps)
 
 above : (n : ℕ) (w : Waiting) (waiting : List Waiting) → n ≤ sum_rank → n < waiting_rank w → n ≤ highest_rank (w ∷ waiting)
-above n (sign s) waiting most high = absurd (omega arith)
-above n (left operator l) waiting most high = omega arith
-above n parenthesis waiting most high = most
+above n w waiting most high = search rules
 
 more-settled : (n : ℕ) (t : Tree) (w : Waiting) (waiting : List Waiting) (s : Tree × List Waiting) → Completes n t w waiting
     → Settles n (completed_tree w t) waiting s → Settles n t (w ∷ waiting) s
-more-settled n t w waiting s h more = record {
-  spells = more.spells ∙ ap (λ (ms : List Mark). waiting_marks waiting ++ ms) (sym h.spells)
-      ∙ sym (append_assoc (waiting_marks waiting) (own_marks w) (spelling t));
-  fits = more.fits;
-  ranked = more.ranked;
-  low = more.low;
-}
+more-settled n t w waiting s h more = grind (arith, common_steps)
 
 by-test : (b : Bool) (n : ℕ) (t : Tree) (w : Waiting) (waiting : List Waiting) (s : Tree × List Waiting) → nat_le (waiting_rank w) n ≡ b
     → (waiting_rank w ≤ n → Settles n t (w ∷ waiting) s) → (n < waiting_rank w → Settles n t (w ∷ waiting) (t, w ∷ waiting))
     → Settles n t (w ∷ waiting) (cond b s (t, w ∷ waiting))
-by-test true n t w waiting s e more here = more (leb-true (waiting_rank w) n e)
-by-test false n t w waiting s e more here = here (leb-false (waiting_rank w) n e)
+by-test b n t w waiting s e more here = search rules
 
 settles : (n : ℕ) (t : Tree) (waiting : List Waiting) → n ≤ sum_rank → Fits waiting → IsRanked n t → IsRanked (highest_rank waiting) t
     → Settles n t waiting (settled_operand n t waiting)
@@ -107,9 +92,7 @@ operates operator t waiting taken (fits, ranked, e) =
   where
     low : (o : Operator) → rank_of_operator o ≤ sum_rank
     low Add = omega arith
-    low Subtract = omega arith
-    low Multiply = omega arith
-    low Divide = omega arith
+    low o = omega arith
 
 closes : (t : Tree) (waiting : List Waiting) (taken : List Mark) → Fits waiting → IsRanked sum_rank t → sum_rank ≤ highest_rank waiting
     → waiting_marks waiting ++ spelling t ≡ taken
@@ -130,26 +113,13 @@ closes t (parenthesis ∷ waiting) taken fits r low e = (
 
 reads-next : (state : ParseState) (m : Mark) (taken : List Mark) → Reads state taken
     → IfSome (state_after_mark state m) (λ after. Reads after (taken ++ m ∷ []))
-reads-next (needs waiting) (single a) taken (fits, e) = (fits, (λ n. tt), one-more (waiting_marks waiting) taken (single a) e)
-reads-next (needs waiting) opening taken (fits, e) = (fits, one-more (waiting_marks waiting) taken opening e)
-reads-next (needs waiting) (arithmetic Add) taken (fits, e) = (fits, one-more (waiting_marks waiting) taken (arithmetic Add) e)
-reads-next (needs waiting) (arithmetic Subtract) taken (fits, e) = (fits, one-more (waiting_marks waiting) taken (arithmetic Subtract) e)
-reads-next (stands t waiting) (arithmetic operator) taken h = operates operator t waiting taken h
-reads-next (stands t waiting) closing taken (fits, ranked, e) =
-    let s = settled_operand sum_rank t waiting in
-    let h : Settles sum_rank t waiting s =
-    settles sum_rank t waiting (omega arith) fits (ranked sum_rank) (ranked (highest_rank waiting)) in
-    closes s.0 s.1 taken h.fits h.ranked h.low (h.spells ∙ e)
-reads-next state m taken h = tt
+reads-next state m taken h = grind (arith, closes, one-more, operates, settles)
 
 -- ---- the whole expression
 
 reads-whole : (t : Tree) (waiting : List Waiting) (u : Tree) (taken : List Mark) → IsRanked sum_rank t
     → waiting_marks waiting ++ spelling t ≡ taken → whole_tree (t, waiting) ≡ Some u → IsRanked sum_rank u × (taken ≡ spelling u)
-reads-whole t [] u taken r e is =
-    let same : t ≡ u = cc in
-    (rw same at r, sym e ∙ ap spelling same)
-reads-whole t (w ∷ waiting) u taken r e is = absurd (cc)
+reads-whole t waiting u taken r e is = search rules
 
 reads-end : (state : ParseState) (u : Tree) (taken : List Mark) → Reads state taken → finished_tree state ≡ Some u
     → IsRanked sum_rank u × (taken ≡ spelling u)

@@ -1,5 +1,5 @@
 -- A script's table of last frames, and the lines that it stands for.
-use Rattle.std.proofs.Common.{◌≡◌, ℕ, ◌+◌, ◌-◌, ◌<◌, ◌≤◌, List, [], ◌∷◌, ◌++◌, length, get_or, refl, ap, ◌∙◌, arith, sub-one, inl, inr}
+use Rattle.std.proofs.Common.{◌≡◌, ℕ, ◌+◌, ◌-◌, ◌<◌, ◌≤◌, List, [], ◌∷◌, ◌++◌, length, get_or, refl, ap, arith, sub-one, inl, inr}
 use Rattle.std.specs.Prelude.{nat_le}
 use Rattle.std.proofs.lemmas.Bool.{cases_Bool, lt-ltb, le-ltb}
 use Rattle.std.proofs.lemmas.Bool.Decides.{nat_tests}
@@ -36,15 +36,12 @@ entry-after before [] entry h = ap (λ n. stretch_after n entry ∷ []) (none be
 entry-after before (first ∷ entries) entry (rises, more) =
     let rest = total_frames (entry_stretches first.end entries) in
     let same : first.end + rest ≡ before + ((first.end - before) + rest) = omega (arith, rises) in
-    ap (λ lines. stretch_after before first ∷ lines)
-    (entry-after first.end entries entry more ∙ ap (λ n. entry_stretches first.end entries ++ stretch_after n entry ∷ []) same)
+    cc (entry-after first.end entries entry more, same)
 
 pub rises-after : (before : ℕ) (entries : List HeldUntil) (entry : HeldUntil) → Rises before entries
     → before + total_frames (entry_stretches before entries) ≤ entry.end → Rises before (entries ++ entry ∷ [])
-rises-after before [] entry h end = let last : before + 0 ≤ entry.end = end in (omega (arith, last), tt)
-rises-after before (first ∷ entries) entry (rises, more) end =
-    let last : before + ((first.end - before) + total_frames (entry_stretches first.end entries)) ≤ entry.end = end in
-    (rises, rises-after first.end entries entry more (omega (arith, rises, last)))
+rises-after before [] entry h end = (omega arith, tt)
+rises-after before (first ∷ entries) entry (rises, more) end = (rises, rises-after first.end entries entry more (omega (arith, rises)))
 
 pub total-after : (lines : List Stretch) (line : Stretch) → total_frames (lines ++ line ∷ []) ≡ total_frames lines + line.frames
 total-after [] line = omega arith
@@ -54,19 +51,12 @@ total-after (first ∷ lines) line = let more = total-after lines line in omega 
 last-of : (before : ℕ) (first : HeldUntil) (entries : List HeldUntil) (d : HeldUntil) → Rises before (first ∷ entries)
     → before + total_frames (entry_stretches before (first ∷ entries)) ≡ (get_or (first ∷ entries) (length entries) d).end
 last-of before first [] d (rises, more) = omega (arith, rises)
-last-of before first (second ∷ entries) d (rises, more) =
-    let rest : first.end + total_frames (entry_stretches first.end (second ∷ entries))
-    ≡ (get_or (second ∷ entries) (length entries) d).end =
-    last-of first.end second entries d more in
-    omega (arith, rises, rest)
+last-of before first (second ∷ entries) d (rises, more) = omega (arith, rises, last-of first.end second entries d more)
 
 pub last-ends : (entries : List HeldUntil) (d : HeldUntil) → Rises 0 entries → 0 < length entries
     → total_frames (entry_stretches 0 entries) ≡ (get_or entries (length entries - 1) d).end
 last-ends [] d h some = absurd (omega (arith, some))
-last-ends (first ∷ entries) d h some =
-    let last : 0 + total_frames (entry_stretches 0 (first ∷ entries)) ≡ (get_or (first ∷ entries) (length entries) d).end =
-    last-of 0 first entries d h in
-    rw sub-one (omega (arith, last))
+last-ends (first ∷ entries) d h some = rw sub-one (omega (arith, last-of 0 first entries d h))
 
 pub ruleset last_entries = (last-ends)
 

@@ -1,20 +1,18 @@
 -- A text is read as the script that it is, and refused at the fault that it has.
+use Rattle.std.proofs.lemmas.Grind.{common_steps}
 use Rattle.std.proofs.Common.{◌≡◌, ℕ, ◌+◌, ◌≤◌, List, [], ◌∷◌, ◌++◌, length, Some, None, Result, Ok, Err, refl, sym, ap, ◌∙◌, subst, arith}
-use Rattle.std.proofs.Common.{inl, inr, append-nil, append_assoc}
+use Rattle.std.proofs.Common.{inl, inr, append-nil, append_assoc, rules}
 use Rattle.std.specs.Prelude.{IfOk, IfErr}
-use Rattle.std.proofs.lemmas.Bool.{cases_lt, lt-ltb, le-ltb}
+use Rattle.std.proofs.lemmas.Bool.{cases_lt, le-ltb}
 use Rattle.std.specs.Str.Lines.{lines}
 use Rattle.pac_inputs.specs.declared.fault.ScriptCode.{ScriptCode}
 use Rattle.pac_inputs.specs.declared.fault.ScriptCode.TheVariants.{Length}
 use Rattle.pac_inputs.specs.declared.fault.ScriptFault.{ScriptFault}
 use Rattle.pac_inputs.specs.declared.fault.ScriptError.{ScriptError}
-use Rattle.pac_inputs.specs.declared.fault.ScriptError.TheVariants as errors
 use Rattle.pac_inputs.specs.declared.line.Stretch.{Stretch}
 use Rattle.pac_inputs.specs.Stretches.{total_frames}
 use Rattle.pac_inputs.specs.Script.{meaning, script_from_line, script_of}
-use Rattle.pac_inputs.specs.ScriptProofs.{ScriptGives, OnScriptFault, Says}
-use Rattle.pac_inputs.specs.ScriptProofs.{Meaning, ScriptOrFault}
-use Rattle.pac_inputs.specs.ScriptProofs.{IsScript, IsLineFault, HasScriptFault}
+use Rattle.pac_inputs.specs.ScriptProofs.{ScriptGives, OnScriptFault, Says, Meaning, ScriptOrFault, IsScript, IsLineFault, HasScriptFault}
 use Rattle.pac_inputs.proofs.Frames.{total-after}
 
 abbrev at : ScriptCode → ℕ → ScriptFault
@@ -40,8 +38,7 @@ read-fault : (n : ℕ) (before : List Stretch) (line : Line) (more : List Line) 
     IsLineFault (total_frames before) line code
     → script_from_line n before (line ∷ more) ≡ Err (at code n)
 unfolding script_from_line
-read-fault n before line more code (inl e) = rw e refl
-read-fault n before line more code (inr (s, e, long, is)) = rw (e, lt-ltb 36000 (total_frames before + s.frames) long, is) refl
+read-fault n before line more code given = search rules
 
 read-end : (n : ℕ) (before : List Stretch) → script_from_line n before [] ≡ Ok before
 unfolding script_from_line
@@ -52,34 +49,26 @@ read-end n before = refl
 says-on : (n : ℕ) (before : List Stretch) (earlier later : List Line) (said : List Stretch) → Says earlier said
     → total_frames before + total_frames said ≤ 36000
     → script_from_line n before (earlier ++ later) ≡ script_from_line (length earlier + n) (before ++ said) later
-says-on n before [] later said says h =
-    let same : n ≡ 0 + n = omega arith in
-    ap (λ (x : List Stretch). script_from_line n x later) (sym (append-nil before) ∙ ap (λ (x : List Stretch). before ++ x) (sym says))
-    ∙ ap (λ k. script_from_line k (before ++ said) later) same
+says-on n before [] later said says h = search rules
 says-on n before (line ∷ earlier) later said (inl (e, says)) h =
     read-nothing n before line (earlier ++ later) e
     ∙ (says-on (n + 1) before earlier later said says h ∙ ap (λ k. script_from_line k (before ++ said) later) (omega arith))
 says-on n before (line ∷ earlier) later said (inr (s, more, e, parts, says)) h =
     let sum : total_frames said ≡ s.frames + total_frames more = ap total_frames parts in
     let sum' = total-after before s in
-    let same : (before ++ s ∷ []) ++ more ≡ before ++ said = append_assoc before (s ∷ []) more
-    ∙ ap (λ (x : List Stretch). before ++ x) (sym parts) in
+    let same : (before ++ s ∷ []) ++ more ≡ before ++ said = grind (arith, common_steps) in
     read-stretch n before line (earlier ++ later) s e (omega (arith, sum, h))
     ∙ (says-on (n + 1) (before ++ s ∷ []) earlier later more says (omega (arith, sum, sum', h))
-    ∙ (ap (λ k. script_from_line k ((before ++ s ∷ []) ++ more) later) (omega arith)
-    ∙ ap (λ (x : List Stretch). script_from_line (length (line ∷ earlier) + n) x later) same))
+    ∙ (search rules))
 
 pub script-again : (text : List ℕ) (said : List Stretch) → IsScript text said → script_of text ≡ Ok said
 script-again text said h =
-    let within = h.within in
-    let all : 0 + total_frames said ≤ 36000 = omega (arith, within) in
-    ap (λ (x : List Line). script_from_line 1 [] x) (sym (append-nil (lines text)))
-    ∙ (says-on 1 [] (lines text) [] said h.says all ∙ read-end (length (lines text) + 1) said)
+    let all : 0 + total_frames said ≤ 36000 = omega arith in
+    cc (append-nil (lines text), says-on 1 [] (lines text) [] said h.says all, read-end (length (lines text) + 1) said)
 
 pub fault-again : (text : List ℕ) (fault : ScriptFault) → HasScriptFault text fault → script_of text ≡ Err fault
 fault-again text fault h =
-    let within = h.within in
-    let all : 0 + total_frames h.said ≤ 36000 = omega (arith, within) in
+    let all : 0 + total_frames h.said ≤ 36000 = omega arith in
     ap (λ (x : List Line). script_from_line 1 [] x) h.parts
     ∙ (says-on 1 [] h.earlier (h.wrong ∷ h.later) h.said h.says all
     ∙ (read-fault (length h.earlier + 1) h.said h.wrong h.later fault.code h.faulty ∙ ap (λ n. failed (at fault.code n)) (sym h.line)))
@@ -230,28 +219,14 @@ pub has-fault : (text : List ℕ) (fault : ScriptFault) → script_of text ≡ E
 has-fault text fault e =
     let told = is-told 1 [] (lines text) fault (omega arith) e in
     let within : 0 + total_frames told.said ≤ 36000 = told.within in
-    let none : 0 + total_frames told.said ≡ total_frames told.said = omega arith in
-    record {
-      earlier = told.earlier;
-      wrong = told.wrong;
-      later = told.later;
-      said = told.said;
-      parts = told.parts;
-      line = told.line;
-      says = told.says;
-      within = omega (arith, within);
-      faulty = subst (λ k. IsLineFault k told.wrong fault.code) none told.faulty;
-    }
+    let none : 0 + total_frames told.said ≡ total_frames told.said = omega arith in search rules
 
 -- ---- the same of an answer
 
 pub read-is-script : (text : List ℕ) (result : Result (List Stretch) ScriptError) → ScriptGives result (script_of text)
     → IfOk result (IsScript text)
-read-is-script text (Ok said) h = is-script text said h
-read-is-script text (Err e) h = tt
+read-is-script text result h = grind (arith, is-script)
 
 pub told-is-fault : (text : List ℕ) (result : Result (List Stretch) ScriptError) → ScriptGives result (script_of text)
     → IfErr result (λ e. OnScriptFault e (HasScriptFault text))
-told-is-fault text (Ok said) h = tt
-told-is-fault text (Err errors.Memory) h = tt
-told-is-fault text (Err (errors.Fault fault)) h = has-fault text fault h
+told-is-fault text result h = grind (arith, has-fault)

@@ -1,6 +1,6 @@
 -- Names read one after another, and bytes that can be no name.
-use Rattle.std.proofs.Common.{◌≡◌, ℕ, zero, suc, ◌+◌, ◌<◌, get_or, arith, eqb, Bool, true, List, [], ◌∷◌, length, Option, Some, None, refl}
-use Rattle.std.proofs.Common.{sym, ap, ◌∙◌, inl, inr, nat_eq, subst, Bor, option_map, IfNone, IfSome}
+use Rattle.std.proofs.Common.{◌≡◌, ℕ, zero, suc, ◌+◌, ◌<◌, get_or, arith, Bool, true, List, [], ◌∷◌, length, Option, Some, None, refl}
+use Rattle.std.proofs.Common.{sym, inl, inr, nat_eq, subst, Bor, option_map, IfNone, IfSome, rules}
 use Rattle.std.specs.List.{list_all, slice_split}
 use Rattle.std.specs.Str.{IsUtf8}
 use Rattle.std.proofs.lemmas.Str.{IsUtf8-from_ascii}
@@ -32,10 +32,7 @@ unread (row ∷ table) name all bad =
     ]
 
 pub no-text-no-input : (name : List ℕ) → (IsUtf8 name → ⊥) → find_name input_bits name ≡ None
-no-text-no-input name bad = elim (cases_Bool (eqb (length name) 0)) [
-  | inl e ↦ rw e refl
-  | inr e ↦ rw e (unread input_bits name refl bad)
-]
+no-text-no-input name bad = grind (arith, cases_Bool, unread)
 
 -- these bits held, and the inputs of the names that are left
 abbrev pub with_rest : ℕ → Option (List ℕ) → Option ℕ
@@ -54,23 +51,13 @@ one-more : (held bit : ℕ) (name : List ℕ) (names : List (List ℕ)) → find
     → with_names (bit_or held bit) names ≡ with_names held (name ∷ names)
 one-more held bit name names e = rw e refl
 
-read-on : (held bit : ℕ) (names name : List ℕ) (after : Option (Bor (List ℕ)))
-    → IfNone after (slice_split is_comma_byte names ≡ name ∷ [])
-    → IfSome after (λ b. slice_split is_comma_byte names ≡ name ∷ slice_split is_comma_byte b.now)
-    → find_name input_bits name ≡ Some bit → with_rest (bit_or held bit) (texts after) ≡ with_names held (slice_split is_comma_byte names)
-read-on held bit names name None last more e = one-more held bit name [] e ∙ ap (with_names held) (sym last)
-read-on held bit names name (Some b) last more e = one-more held bit name (slice_split is_comma_byte b.now) e
-    ∙ ap (with_names held) (sym more)
-
 -- What the names come to stays the same, as the first of them is taken.
 pub name-read : (held bit now : ℕ) (old after : Option (Bor (List ℕ))) (names : Bor (List ℕ)) (name : List ℕ) (all : Option ℕ)
     → with_rest held (texts old) ≡ all → old ≡ Some names
     → IfNone after (slice_split is_comma_byte names.now ≡ name ∷ [])
     → IfSome after (λ b. slice_split is_comma_byte names.now ≡ name ∷ slice_split is_comma_byte b.now)
     → find_name input_bits name ≡ Some bit → now ≡ bit_or held bit → with_rest now (texts after) ≡ all
-name-read held bit now old after names name all so_far is last more e joined =
-    ap (λ bits. with_rest bits (texts after)) joined
-    ∙ (read-on held bit names.now name after last more e ∙ (ap (λ rest. with_rest held (texts rest)) (sym is) ∙ so_far))
+name-read held bit now old after names name all so_far is last more e joined = search rules
 
 pub ruleset all_parts = (last-part, more-parts)
 

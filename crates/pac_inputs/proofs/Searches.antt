@@ -15,11 +15,10 @@ is_over frame entry = ltb entry.end frame
 
 next-rises : (before : ℕ) (entries : List HeldUntil) → Rises before entries → (k : ℕ) (d : HeldUntil) → suc k < length entries
     → (get_or entries k d).end ≤ (get_or entries (suc k) d).end
-next-rises before [] h k d small = absurd (omega (arith, small))
-next-rises before (entry ∷ []) h k d small = absurd (omega (arith, small))
 next-rises before (entry ∷ second ∷ entries) (first, more) zero d small = more.0
 next-rises before (entry ∷ second ∷ entries) (first, more) (suc k) d small =
     next-rises entry.end (second ∷ entries) more k d (omega (arith, small))
+next-rises before entries h k d small = absurd (omega (arith, small))
 
 pub ends-parted : (entries : List HeldUntil) (frame : ℕ) → Rises 0 entries → IsPartitionedBy (is_over frame) entries
 ends-parted entries frame h =

@@ -20,8 +20,4 @@ number-grows n [] = omega arith
 number-grows n (c ∷ digits) = le_trans (omega arith) (number-grows (n * 10 + (c - 48)) digits)
 
 pub too-large : (most n c : ℕ) (digits : List ℕ) → most < n * 10 + (c - 48) → with_digits most n (c ∷ digits) ≡ None
-too-large most n c digits large =
-    let more = number-grows (n * 10 + (c - 48)) digits in
-    cond-false _ _ _
-    (and_right (list_all is_ascii_digit (c ∷ digits) && nat_le 1 (number_from n (c ∷ digits))) _
-    (lt-leb (number_from n (c ∷ digits)) most (omega (arith, more, large))))
+too-large most n c digits large = grind (arith, and_right, cond-false, lt-leb, number-grows)

@@ -1,9 +1,7 @@
 -- The elements of a list after a change, and lists of one value.
-use Rattle.std.proofs.Common.{◌≡◌, ◌≢◌, ℕ, zero, suc, ◌+◌, ◌-◌, ◌<◌, ◌≤◌, ◌==◌, cond, List, [], ◌∷◌, ◌++◌}
-use Rattle.std.proofs.Common.{length, get_or, set, take, drop, replicate, slice_get, Some, refl, sym, ap, ◌∙◌, below_more, arith}
-use Rattle.std.proofs.lemmas.List.{get_or-take, get_or-drop, get_or-set_same, get_or-set_other, length-append, length-take-le, length-drop}
-use Rattle.std.proofs.lemmas.Grind.{get_or-set_at}
-use Rattle.std.proofs.lemmas.Bool.Decides.{nat_tests}
+use Rattle.std.proofs.Common.{◌≡◌, ℕ, suc, ◌+◌, ◌-◌, ◌<◌, ◌≤◌, List, [], ◌∷◌, ◌++◌, rules}
+use Rattle.std.proofs.Common.{length, get_or, set, drop, replicate, slice_get, Some, refl, sym, ap, ◌∙◌, arith}
+use Rattle.std.proofs.lemmas.List.{get_or-take, get_or-drop, length-append, length-take-le, length-drop}
 use Rattle.std.proofs.lemmas.Slice.{take-put_mid_below, drop-put_mid, between-put_mid}
 use borrow.Rule.Slice.PartMut.{put_mid}
 
@@ -11,21 +9,12 @@ use borrow.Rule.Slice.PartMut.{put_mid}
 pub set-one-more : {A : Type 0} (xs : List A) (value : ℕ → A) (place : ℕ) (next other : A) → place < length xs → next ≡ value place →
     ((k : ℕ) → k < place → get_or xs k other ≡ value k) →
     (k : ℕ) → k < place + 1 → get_or (set xs place next) k other ≡ value k
-set-one-more xs value place next other inside is so_far =
-    below_more _ _
-    (λ k before. let apart : k ≢ place = omega arith in rw get_or-set_other (so_far k before))
-    (rw get_or-set_same is)
-
--- an element after one is set
-pub get_or-set : {A : Type 0} (xs : List A) (written place : ℕ) (x other : A) → place < length xs →
-    get_or (set xs written x) place other ≡ cond (written == place) x (get_or xs place other)
-get_or-set xs written place x other below = grind (arith, nat_tests, get_or-set_at, get_or-set_other)
+set-one-more xs value place next other inside is so_far = search rules
 
 -- a list of one value has it at each place, where the value past its end is that one, too
 pub get_or-replicate-all : {A : Type 0} (count place : ℕ) (x : A) → get_or (replicate count x) place x ≡ x
-get_or-replicate-all zero place x = refl
-get_or-replicate-all (suc count) zero x = refl
 get_or-replicate-all (suc count) (suc place) x = get_or-replicate-all count place x
+get_or-replicate-all count place x = refl
 
 -- the element that follows the first of two lists
 pub slice_get-after : {A : Type 0} (xs : List A) (x : A) (more : List A) → slice_get (xs ++ x ∷ more) (length xs) ≡ Some x
@@ -43,11 +32,7 @@ pub get_or-after-put_mid : (a k : ℕ) (xs ys : List ℕ) (n : ℕ) → a + k �
     get_or (put_mid a k xs ys) n 0 ≡ get_or xs n 0
 get_or-after-put_mid a k xs ys n h fits whole =
     let same : n ≡ n + 0 = omega arith in
-    ap (λ m. get_or (put_mid a k xs ys) m 0) same
-    ∙ sym (get_or-drop n (put_mid a k xs ys) 0 0)
-    ∙ ap (λ (l : List ℕ). get_or l 0 0) (drop-put_mid a k xs ys n h fits whole)
-    ∙ get_or-drop n xs 0 0
-    ∙ ap (λ m. get_or xs m 0) (sym same)
+    cc (same, get_or-drop n (put_mid a k xs ys) 0 0, drop-put_mid a k xs ys n h fits whole, get_or-drop n xs 0 0)
 
 pub get_or-in-put_mid : (a k : ℕ) (xs ys : List ℕ) (j : ℕ) → j < k → a ≤ length xs → length ys ≡ k →
     get_or (put_mid a k xs ys) (a + j) 0 ≡ get_or ys j 0
@@ -57,13 +42,4 @@ get_or-in-put_mid a k xs ys j h fits whole =
     ∙ ap (λ (l : List ℕ). get_or l j 0) (between-put_mid a k xs ys (a + k) fits (omega arith))
 
 pub length-put_mid : (a k : ℕ) (xs ys : List ℕ) → a + k ≤ length xs → length ys ≡ k → length (put_mid a k xs ys) ≡ length xs
-length-put_mid a k xs ys fits whole =
-    let rest = drop k (drop a xs) in
-    omega (
-      arith,
-      length-append (take a xs) (ys ++ rest),
-      length-append ys rest,
-      length-take-le a xs (omega arith),
-      length-drop k (drop a xs),
-      length-drop a xs,
-    )
+length-put_mid a k xs ys fits whole = grind (arith, length-append, length-drop, length-take-le)

@@ -1,5 +1,5 @@
 -- What a list of pairs tells of a key.
-use Rattle.std.proofs.Common.{◌≡◌, Bool, true, cond, List, [], ◌∷◌, Some, refl, sym, ap, ◌∙◌, inl, inr}
+use Rattle.std.proofs.Common.{◌≡◌, Bool, true, List, [], ◌∷◌, Some, refl, sym, ap, ◌∙◌, inl, inr}
 use Rattle.std.specs.List.{filter}
 use Rattle.std.specs.Map.{lookup}
 use Rattle.std.proofs.lemmas.Bool.{cases_Bool, cond-true, cond-false, false≢true}
@@ -10,9 +10,7 @@ pub lookup-filter : {K V : Type 0} (p : K → Bool) (q : K × V → Bool) (es : 
 lookup-filter p q [] implied = refl
 lookup-filter p q (e ∷ es) implied =
     elim (cases_Bool (q e)) [
-      | inl passes ↦
-          ap (lookup p) (cond-true (q e) (e ∷ filter q es) (filter q es) passes) ∙
-          ap (cond (p e.0) (Some e.1)) (lookup-filter p q es implied)
+      | inl passes ↦ cc (cond-true (q e) (e ∷ filter q es) (filter q es) passes, lookup-filter p q es implied)
       | inr fails ↦
           elim (cases_Bool (p e.0)) [
             | inl both ↦ absurd (false≢true (sym fails ∙ implied e both))

@@ -1,37 +1,25 @@
 -- What is in an `Option` or a `Result`.
-use Rattle.std.proofs.Common.{◌≡◌, ◌⊎◌, Bool, true, false, cond, Option, Some, None, Result, Ok, Err, is_some, is_none, is_ok, refl, sym}
-use Rattle.std.proofs.Common.{ap, inl, inr}
+use Rattle.std.proofs.Common.{◌≡◌, ◌⊎◌, Bool, true, false, cond, Option, Some, None, Result, Ok, Err, is_some, is_none, is_ok, refl}
+use Rattle.std.proofs.Common.{ap, inl, inr, rules}
 use Rattle.std.specs.Option.{option_or}
-use Rattle.std.proofs.lemmas.Bool.{true≢false, false≢true}
+use Rattle.std.proofs.lemmas.Bool.{false≢true}
 
 pub none-or-some : {X : Type 0} (o : Option X) → (o ≡ None) ⊎ ((x : X) × (o ≡ Some x))
 none-or-some None = inl refl
 none-or-some (Some x) = inr (x, refl)
 
-pub some-from-is_some : {X : Type 0} (o : Option X) → is_some o ≡ true → (x : X) × (o ≡ Some x)
-some-from-is_some None e = absurd (true≢false (sym e))
-some-from-is_some (Some x) e = (x, refl)
-
 pub none-from-is_some : {X : Type 0} (o : Option X) → is_some o ≡ false → o ≡ None
-none-from-is_some None e = refl
-none-from-is_some (Some x) e = absurd (true≢false e)
-
-pub none-from-is_none : {X : Type 0} (o : Option X) → is_none o ≡ true → o ≡ None
-none-from-is_none None e = refl
-none-from-is_none (Some x) e = absurd (false≢true e)
+none-from-is_some o e = search rules
 
 pub is_none-where-some : {X : Type 0} (o : Option X) → is_some o ≡ true → false ≡ is_none o
-is_none-where-some None e = absurd (true≢false (sym e))
-is_none-where-some (Some x) e = refl
+is_none-where-some o e = search rules
 
 -- a choice that is nothing: its test fails, and so is the other
 pub none-parts : {X : Type 0} (b : Bool) (x : X) (o : Option X) → cond b (Some x) o ≡ None → (b ≡ false) × (o ≡ None)
-none-parts true x o e = absurd (true≢false (ap is_some e))
-none-parts false x o e = (refl, e)
+none-parts b x o e = search rules
 
 pub both-none : {X : Type 0} (a b : Option X) → option_or a b ≡ None → (a ≡ None) × (b ≡ None)
-both-none None b e = (refl, e)
-both-none (Some x) b e = absurd (true≢false (ap is_some e))
+both-none a b e = search rules
 
 ok-or : {A E : Type 0} → A → Result A E → A
 ok-or other (Ok x) = x

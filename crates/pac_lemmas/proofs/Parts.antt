@@ -1,6 +1,5 @@
 -- A list of bytes cut at those that pass a test.
-use Rattle.std.proofs.Common.{◌≡◌, ℕ, suc, ◌<◌, Bool, true, false, not, List, [], ◌∷◌, length, take, drop, refl, sym, ap, ◌∙◌, arith}
-use Rattle.std.proofs.Common.{one-add, inl, inr}
+use Rattle.std.proofs.Common.{◌≡◌, ℕ, suc, ◌<◌, Bool, true, false, not, List, [], ◌∷◌, length, take, drop, refl, arith, one-add, inl, inr}
 use Rattle.std.specs.List.{prefix_len, slice_split}
 use Rattle.std.proofs.lemmas.Bool.{cases_Bool}
 
@@ -23,13 +22,11 @@ first-part p (b ∷ bytes) = elim (cases_Bool (p b)) [
 
 pub last-part : (p : ℕ → Bool) (bytes rest : List ℕ) → rest ≡ drop (part_end p bytes) bytes → length rest ≡ 0
     → slice_split p bytes ≡ take (part_end p bytes) bytes ∷ []
-last-part p bytes [] e h = first-part p bytes ∙ ap (λ xs. take (part_end p bytes) bytes ∷ parts_after p xs) (sym e)
-last-part p bytes (b ∷ rest) e h = absurd (omega (arith, h))
+last-part p bytes rest e h = grind (arith, first-part)
 
 pub more-parts : (p : ℕ → Bool) (bytes rest : List ℕ) → rest ≡ drop (part_end p bytes) bytes → 0 < length rest
     → slice_split p bytes ≡ take (part_end p bytes) bytes ∷ slice_split p (drop 1 rest)
-more-parts p bytes [] e h = absurd (omega (arith, h))
-more-parts p bytes (b ∷ rest) e h = first-part p bytes ∙ ap (λ xs. take (part_end p bytes) bytes ∷ parts_after p xs) (sym e)
+more-parts p bytes rest e h = grind (arith, first-part)
 
 pub part-more : (p : ℕ → Bool) (b : ℕ) (bytes : List ℕ) → p b ≡ false → part_end p (b ∷ bytes) ≡ suc (part_end p bytes)
 part-more p b bytes e = rw (e, one-add) refl

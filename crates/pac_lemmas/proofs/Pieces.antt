@@ -7,16 +7,12 @@ use Rattle.std.proofs.lemmas.Grind.{flat_map-append}
 
 pub flat_map-one-more : {X Y : Type 0} (f : X → List Y) (xs : List X) (i : ℕ) (d : X) → i < length xs
     → flat_map f (take i xs) ++ f (get_or xs i d) ≡ flat_map f (take (i + 1) xs)
-flat_map-one-more f xs i d lt =
-    ap (λ one. flat_map f (take i xs) ++ one) (sym (append-nil (f (get_or xs i d))))
-    ∙ sym (flat_map-append f (take i xs) (get_or xs i d ∷ [])) ∙ ap (flat_map f) (sym (take_more xs i d lt))
+flat_map-one-more f xs i d lt = cc (append-nil (f (get_or xs i d)), flat_map-append f (take i xs) (get_or xs i d ∷ []), take_more xs i d lt)
 
 pub flat_map-split : {X Y : Type 0} (f : X → List Y) (xs : List X) (i : ℕ) (d : X) → i < length xs
     → (flat_map f (take i xs) ++ f (get_or xs i d)) ++ flat_map f (drop (i + 1) xs) ≡ flat_map f xs
 flat_map-split f xs i d lt =
-    ap (λ part. part ++ flat_map f (drop (i + 1) xs)) (flat_map-one-more f xs i d lt)
-    ∙ sym (flat_map-append f (take (i + 1) xs) (drop (i + 1) xs))
-    ∙ ap (flat_map f) (take-append-drop (i + 1) xs)
+    cc (flat_map-one-more f xs i d lt, flat_map-append f (take (i + 1) xs) (drop (i + 1) xs), take-append-drop (i + 1) xs)
 
 -- lists made of pieces of one element each
 pub map-one-more : {X Y : Type 0} (f : X → Y) (xs : List X) (i : ℕ) (d : X) → i < length xs

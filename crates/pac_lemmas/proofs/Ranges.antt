@@ -1,15 +1,12 @@
 -- The numbers from one to another, and the values of a function at them.
-use Rattle.std.proofs.Common.{◌≡◌, ℕ, zero, suc, ◌+◌, ◌-◌, ◌<◌, ◌≤◌, Bool, false, map, take, drop, sym, ap, ◌∙◌, ⊎_elim, arith}
+use Rattle.std.proofs.Common.{◌≡◌, ℕ, zero, suc, ◌+◌, ◌-◌, ◌<◌, ◌≤◌, Bool, false, map, take, drop, sym, ap, ◌∙◌, ⊎_elim, arith, rules}
 use Rattle.std.specs.List.{range_with_len, list_any}
 use Rattle.std.proofs.lemmas.Bool.{cases_eq, or_parts}
 use Rattle.std.proofs.lemmas.List.FromFn.{take-map-range_with_len}
 
 pub drop-map-range : {X : Type 0} (f : ℕ → X) (at a n b m : ℕ) → at + m ≡ n → a + at ≡ b
     → drop at (map f (range_with_len a n)) ≡ map f (range_with_len b m)
-drop-map-range f zero a n b m e s =
-    let same : n ≡ m = omega arith in
-    let begin : a ≡ b = omega arith in
-    ap (λ (k : ℕ). map f (range_with_len a k)) same ∙ ap (λ (k : ℕ). map f (range_with_len k m)) begin
+drop-map-range f zero a n b m e s = search rules
 drop-map-range f (suc at) a zero b m e s = absurd (omega arith)
 drop-map-range f (suc at) a (suc n) b m e s = drop-map-range f at (a + 1) n b m (omega arith) (omega arith)
 
@@ -17,8 +14,7 @@ drop-map-range f (suc at) a (suc n) b m e s = drop-map-range f at (a + 1) n b m 
 pub part-map-range : {X : Type 0} (f : ℕ → X) (at size n : ℕ) → at + size ≤ n
     → take size (drop at (map f (range_with_len 0 n))) ≡ map f (range_with_len at size)
 part-map-range f at size n h =
-    ap (take size) (drop-map-range f at 0 n at (n - at) (omega arith) (omega arith))
-    ∙ take-map-range_with_len f at (n - at) size (omega arith)
+    cc (drop-map-range f at 0 n at (n - at) (omega arith) (omega arith), take-map-range_with_len f at (n - at) size (omega arith))
 
 -- a test that passes at none of them
 pub fails-in-range : (p : ℕ → Bool) (at size k : ℕ) → list_any p (range_with_len at size) ≡ false → at ≤ k → k < at + size → p k ≡ false

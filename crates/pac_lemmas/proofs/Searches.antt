@@ -1,11 +1,9 @@
 -- Tests of all elements of a list, and the first that passes one.
-use Rattle.std.proofs.Common.{◌≡◌, ℕ, zero, suc, ◌+◌, ◌<◌, Bool, true, false, not, cond, if◌then◌else◌, ◌||◌, nat_lt, []}
-use Rattle.std.proofs.Common.{List, ◌∷◌, length, map, get_or, take, Option, Some, None, option_map, All, find, position}
-use Rattle.std.proofs.Common.{refl, sym, ap, ◌∙◌, subst, inl, inr, one-add, le_refl, arith}
+use Rattle.std.proofs.Common.{◌≡◌, ℕ, zero, suc, ◌+◌, ◌<◌, Bool, true, false, not, cond, if◌then◌else◌, ◌||◌, [], rules, List, ◌∷◌, length}
+use Rattle.std.proofs.Common.{map, get_or, take, Some, None, option_map, All, find, position, refl, sym, ap, ◌∙◌, inl, inr, one-add, arith}
 use Rattle.std.specs.Prelude.{is_some}
 use Rattle.std.specs.List.{list_all, list_any, filter, position_or_len, prefix_len}
 use Rattle.std.proofs.lemmas.Bool.{cases_Bool, cases_lt, and_parts, and_from, cond-true, cond-false, false≢true, lt-ltb, le-ltb}
-use Rattle.std.proofs.lemmas.Bool.Decides.{nat_tests}
 use Rattle.std.proofs.lemmas.List.Elements.{All-head, All-tail}
 use Rattle.std.proofs.lemmas.List.Sums.{fails_before_first, passes_at_first}
 
@@ -44,9 +42,7 @@ pub find-filter : {X : Type 0} (p q : X → Bool) (xs : List X) → ((x : X) →
 find-filter p q [] implied = refl
 find-filter p q (x ∷ xs) implied =
     elim (cases_Bool (q x)) [
-      | inl passes ↦
-          ap (find p) (cond-true (q x) (x ∷ filter q xs) (filter q xs) passes) ∙
-          ap (cond (p x) (Some x)) (find-filter p q xs implied)
+      | inl passes ↦ cc (cond-true (q x) (x ∷ filter q xs) (filter q xs) passes, find-filter p q xs implied)
       | inr fails ↦
           elim (cases_Bool (p x)) [
             | inl both ↦ absurd (false≢true (sym fails ∙ implied x both))
@@ -63,19 +59,14 @@ find-passes p q [] x found all = absurd (cc)
 find-passes p q (y ∷ ys) x found all =
     let parts = and_parts (q y) (list_all q ys) all in
     elim (cases_Bool (p y)) [
-      | inl passes ↦
-          let here : Some y ≡ Some x = sym (cond-true (p y) (Some y) (find p ys) passes) ∙ found in
-          let same : y ≡ x = cc here in
-          (subst (λ z. p z ≡ true) same passes, subst (λ z. q z ≡ true) same parts.0)
+      | inl passes ↦ grind (arith, cond-true)
       | inr fails ↦ find-passes p q ys x (sym (cond-false (p y) (Some y) (find p ys) fails) ∙ found) parts.1
     ]
 
 -- tests that agree at each element find the same
 pub find-same : {X : Type 0} (p q : X → Bool) (xs : List X) → All (λ x. p x ≡ q x) xs → find p xs ≡ find q xs
 find-same p q [] same = refl
-find-same p q (x ∷ xs) same =
-    ap (λ b. cond b (Some x) (find p xs)) (All-head (λ y. p y ≡ q y) x xs same) ∙
-    ap (λ o. cond (q x) (Some x) o) (find-same p q xs (All-tail (λ y. p y ≡ q y) x xs same))
+find-same p q (x ∷ xs) same = cc (All-head (λ y. p y ≡ q y) x xs same, find-same p q xs (All-tail (λ y. p y ≡ q y) x xs same))
 
 -- and so do functions of what is found
 pub find-map-same : {X Y : Type 0} (p : X → Bool) (f g : X → Y) (xs : List X) → All (λ x. f x ≡ g x) xs →
@@ -90,28 +81,11 @@ find-map-same p f g (x ∷ xs) same =
 -- ---- its place
 
 first-place : (b : Bool) (n : ℕ) → cond b (Some (1 + n)) None ≡ option_map (λ k. 1 + k) (cond b (Some n) None)
-first-place true n = refl
-first-place false n = refl
-
-less-by-one : (a b : ℕ) → nat_lt (1 + a) (suc b) ≡ nat_lt a b
-less-by-one a b = grind (arith, nat_tests)
+first-place b n = search rules
 
 pub position-cons : {X : Type 0} (p : X → Bool) (x : X) (xs : List X) →
     position p (x ∷ xs) ≡ (if p x then Some 0 else option_map (λ k. 1 + k) (position p xs))
-position-cons p x xs =
-    elim (cases_Bool (p x)) [
-      | inl passes ↦
-          let none : position_or_len p (x ∷ xs) ≡ 0 = ap (λ b. cond (not b) (1 + position_or_len p xs) 0) passes in
-          ap {B = Option ℕ} (λ n. cond (nat_lt n (suc (length xs))) (Some n) None) none ∙
-          cond-true (nat_lt 0 (suc (length xs))) (Some 0) None (lt-ltb 0 (suc (length xs)) (omega arith)) ∙
-          sym (cond-true (p x) (Some 0) (option_map (λ k. 1 + k) (position p xs)) passes)
-      | inr fails ↦
-          let more : position_or_len p (x ∷ xs) ≡ 1 + position_or_len p xs = ap (λ b. cond (not b) (1 + position_or_len p xs) 0) fails in
-          ap {B = Option ℕ} (λ n. cond (nat_lt n (suc (length xs))) (Some n) None) more ∙
-          ap {B = Option ℕ} (λ b. cond b (Some (1 + position_or_len p xs)) None) (less-by-one (position_or_len p xs) (length xs)) ∙
-          first-place (nat_lt (position_or_len p xs) (length xs)) (position_or_len p xs) ∙
-          sym (cond-false (p x) (Some 0) (option_map (λ k. 1 + k) (position p xs)) fails)
-    ]
+position-cons p x xs = search rules
 
 -- where all fail there is none
 pub position_or_len-all-fail : {X : Type 0} (p : X → Bool) (xs : List X) → All (λ x. p x ≡ false) xs → position_or_len p xs ≡ length xs
@@ -121,21 +95,12 @@ position_or_len-all-fail p (x ∷ xs) fails =
     ap (λ b. cond (not b) (1 + position_or_len p xs) 0) (All-head (λ y. p y ≡ false) x xs fails) ∙ omega (arith, rest)
 
 pub position-all-fail : {X : Type 0} (p : X → Bool) (xs : List X) → All (λ x. p x ≡ false) xs → position p xs ≡ None
-position-all-fail p xs fails =
-    ap {B = Option ℕ} (λ n. cond (nat_lt n (length xs)) (Some n) None) (position_or_len-all-fail p xs fails) ∙
-    cond-false (nat_lt (length xs) (length xs)) (Some (length xs)) None (le-ltb (length xs) (length xs) (le_refl (length xs)))
+position-all-fail p xs fails = grind (arith, cond-false, le-ltb, position_or_len-all-fail)
 
 -- where there is none all fail
 pub fails-without-position : {X : Type 0} (p : X → Bool) (xs : List X) (k : ℕ) (d : X) → position p xs ≡ None → k < length xs →
     p (get_or xs k d) ≡ false
-fails-without-position p xs k d none below =
-    elim (cases_lt (position_or_len p xs) (length xs)) [
-      | inl found ↦
-          let some : None ≡ Some (position_or_len p xs) =
-          sym none ∙ cond-true _ _ _ (lt-ltb (position_or_len p xs) (length xs) found) in
-          absurd (cc)
-      | inr all ↦ fails_before_first p xs k d (omega (arith, below, all))
-    ]
+fails-without-position p xs k d none below = grind (arith, cases_lt, cond-true, fails_before_first, lt-ltb)
 
 -- the only one that passes is the first
 pub position-of-the-only : {X : Type 0} (p : X → Bool) (xs : List X) (k : ℕ) (d : X) → k < length xs → p (get_or xs k d) ≡ true →

@@ -1,6 +1,5 @@
 -- What the first byte of a token is, and what it isn't.
-use Rattle.std.proofs.Common.{rules}
-use Rattle.std.proofs.Common.{◌≡◌, ℕ, Bool, true, false, not, eqb, cond, ◌||◌, List, [], ◌∷◌, Some, refl, arith, inl, inr, ◌⊎◌}
+use Rattle.std.proofs.Common.{rules, ◌≡◌, ℕ, Bool, true, false, not, eqb, cond, ◌||◌, List, [], ◌∷◌, Some, refl, arith, inl, inr, ◌⊎◌}
 use Rattle.std.proofs.Common.{subst}
 use Rattle.std.specs.List.{list_all}
 use Rattle.std.specs.Map.{lookup}
@@ -15,8 +14,7 @@ use Rattle.pac_lex.specs.Tokens.{one_byte_kind, one_byte_kinds, begins}
 use Rattle.pac_lex.specs.Scan.{is_end}
 
 pub chosen : {A : Type 0} (b : Bool) (x y z : A) → cond b x y ≡ z → ((b ≡ true) × (x ≡ z)) ⊎ ((b ≡ false) × (y ≡ z))
-chosen true x y z e = inl (refl, e)
-chosen false x y z e = inr (refl, e)
+chosen b x y z e = search rules
 
 -- a token or a fault begins with these bytes
 pub record Starts (bytes : List ℕ) : Type 0 where
@@ -65,14 +63,3 @@ symbol-is-mark b kind e = row-passes (λ row. is_mark row.1) one_byte_kinds b ki
 -- no letter, digit, quote, blank or comment
 abbrev is_plain : ℕ → Bool
 is_plain b = not (is_name_start b || is_ascii_digit b || is_quote b || is_blank b || is_comment_start b)
-
--- what a plain byte isn't
-pub record PlainParts (b : ℕ) : Type 0 where
-  pub no_start : is_name_start b ≡ false
-  pub no_digit : is_ascii_digit b ≡ false
-  pub no_quote : is_quote b ≡ false
-  pub no_blank : is_blank b ≡ false
-  pub no_comment : is_comment_start b ≡ false
-
-pub symbol-parts : (b : ℕ) (kind : TokenKind) → one_byte_kind b ≡ Some kind → PlainParts b
-symbol-parts b kind e = search rules

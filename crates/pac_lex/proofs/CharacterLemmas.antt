@@ -1,6 +1,5 @@
 -- The characters of a text, taken out of its quotes.
-use Rattle.std.proofs.Common.{rules}
-use Rattle.std.proofs.Common.{◌≡◌, ℕ, ◌+◌, ◌-◌, false, List, [], ◌∷◌, ◌++◌, length, take, drop, flat_map, refl, sym, ap, ◌∙◌, arith}
+use Rattle.std.proofs.Common.{rules, ◌≡◌, ℕ, ◌+◌, ◌-◌, false, List, [], ◌∷◌, ◌++◌, length, take, drop, flat_map, refl, sym, ap, ◌∙◌, arith}
 use Rattle.std.proofs.Common.{inl, inr, append_assoc, get_or, ◌≤◌, ◌<◌}
 use Rattle.std.proofs.lemmas.Bool.{cases_Bool, eqb-true}
 use Rattle.std.proofs.lemmas.List.{take_at, take_all, length-append, append-nil}
@@ -10,16 +9,14 @@ use Rattle.pac_lex.specs.TextsProofs.{after_character, unquoted_characters, char
 
 pub unquoted-cons : (b : ℕ) (bytes : List ℕ) → unquoted_characters (b ∷ bytes) ≡ b ∷ unquoted_characters (after_character b bytes)
 unfolding unquoted_characters
-unquoted-cons b [] = refl
-unquoted-cons b (c ∷ bytes) = search rules
+unquoted-cons b bytes = search rules
 
 pub unquoted-nil : unquoted_characters [] ≡ []
 unfolding unquoted_characters
 unquoted-nil = refl
 
 no-quote-after : (c : ℕ) (bytes : List ℕ) → is_quote c ≡ false → after_character c bytes ≡ bytes
-no-quote-after c [] e = refl
-no-quote-after c (d ∷ bytes) e = rw e refl
+no-quote-after c bytes e = search rules
 
 unquoted-quoted : (characters : List ℕ) → unquoted_characters (flat_map quoted_character characters) ≡ characters
 unquoted-quoted [] = unquoted-nil
@@ -36,15 +33,12 @@ characters-again text characters e = grind (arith, length-append, take_at, unquo
 one-more : (found : List ℕ) (b : ℕ) (bytes rest total : List ℕ) → bytes ≡ rest → found ++ unquoted_characters (b ∷ rest) ≡ total
     → (found ++ b ∷ []) ++ unquoted_characters (after_character b bytes) ≡ total
 one-more found b bytes rest total e so_far =
-    rw e (append_assoc found (b ∷ []) (unquoted_characters (after_character b rest))
-    ∙ ap (λ (xs : List ℕ). found ++ xs) (sym (unquoted-cons b rest))
-    ∙ so_far)
+    rw e (cc (append_assoc found (b ∷ []) (unquoted_characters (after_character b rest)), unquoted-cons b rest, so_far))
 
 pub goes-on-unquoted : (found rest total : List ℕ) → 1 ≤ length rest → found ++ unquoted_characters rest ≡ total
     → (found ++ get_or rest 0 0 ∷ []) ++ unquoted_characters (after_character (get_or rest 0 0) (take (length rest - 1) (drop 1 rest)))
     ≡ total
-goes-on-unquoted found [] total some so_far = absurd (omega arith)
-goes-on-unquoted found (b ∷ rest) total some so_far = grind (arith, one-more, take_all)
+goes-on-unquoted found rest total some so_far = grind (arith, one-more, take_all)
 
 pub ends-unquoted : (found rest total : List ℕ) → length rest < 1 → found ++ unquoted_characters rest ≡ total → found ≡ total
 ends-unquoted found [] total none so_far = sym (append-nil found) ∙ ap (λ (xs : List ℕ). found ++ xs) (sym unquoted-nil) ∙ so_far
@@ -53,8 +47,7 @@ ends-unquoted found (b ∷ rest) total none so_far = absurd (omega arith)
 -- counting a text's characters: one more goes on, and at the end the count is all of them
 pub counts-on : (count total : ℕ) (rest : List ℕ) → 1 ≤ length rest → count + length (unquoted_characters rest) ≡ total
     → count + 1 + length (unquoted_characters (after_character (get_or rest 0 0) (take (length rest - 1) (drop 1 rest)))) ≡ total
-counts-on count total [] some so_far = absurd (omega arith)
-counts-on count total (b ∷ rest) some so_far = grind (arith, take_all, unquoted-cons)
+counts-on count total rest some so_far = grind (arith, take_all, unquoted-cons)
 
 pub ends-counted : (count total : ℕ) (rest : List ℕ) → length rest < 1 → count + length (unquoted_characters rest) ≡ total → count ≡ total
 ends-counted count total [] none so_far = grind (arith, unquoted-nil)

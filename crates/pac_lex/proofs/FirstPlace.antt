@@ -1,6 +1,6 @@
 -- The first byte that passes a test, as a search tells it and by counting.
-use Rattle.std.proofs.Common.{◌≡◌, ℕ, Bool, List, length, sym, ◌∙◌, ap, arith, le_refl}
-use Rattle.std.specs.Prelude.{Option, Some, None, position, cond, nat_lt}
+use Rattle.std.proofs.Common.{◌≡◌, ℕ, Bool, List, length, arith}
+use Rattle.std.specs.Prelude.{Option, Some, None, position}
 use Rattle.std.specs.List.{position_or_len}
 use Rattle.std.proofs.lemmas.Bool.{cond-true, cond-false, lt-ltb, false_from_ne_true, le-ltb}
 use Rattle.std.proofs.lemmas.List.Sums.{position_or_len_is}
@@ -10,8 +10,5 @@ pub first-place : (test : ℕ → Bool) (bytes : List ℕ) (found : Option ℕ) 
 first-place test bytes None is =
     let at : position_or_len test bytes ≡ length bytes =
     position_or_len_is test bytes (length bytes) 0 (omega arith) (λ k below. false_from_ne_true _ (is k (omega arith) below))
-    (λ below. absurd (omega arith)) in
-    sym (ap {B = Option ℕ} (λ n. cond (nat_lt n (length bytes)) (Some n) None) at ∙
-    cond-false (nat_lt (length bytes) (length bytes)) (Some (length bytes)) None
-    (le-ltb (length bytes) (length bytes) (le_refl (length bytes))))
+    (λ below. absurd (omega arith)) in grind (arith, cond-false, le-ltb)
 first-place test bytes (Some k) is = grind (arith, cond-true, false_from_ne_true, lt-ltb, position_or_len_is)

@@ -1,8 +1,8 @@
 -- A line is read as the tokens that it is made of, and refused at the fault that it has.
-use Rattle.std.proofs.Common.{◌≡◌, ℕ, zero, suc, ◌<◌, ◌≤◌, true, false, not, ltb, List, [], ◌∷◌, ◌++◌, length, drop, Result, Ok, Err}
-use Rattle.std.proofs.Common.{refl, sym, ap, ◌∙◌, subst, arith, inl, inr, ◌⊎◌}
+use Rattle.std.proofs.Common.{◌≡◌, ℕ, zero, suc, ◌<◌, ◌≤◌, true, false, not, ltb, List, [], ◌∷◌, ◌++◌, length, drop, Result, Ok, Err, rules}
+use Rattle.std.proofs.Common.{refl, sym, ◌∙◌, subst, arith, inl, inr, ◌⊎◌}
 use Rattle.std.specs.List.{prefix_len}
-use Rattle.std.proofs.lemmas.Bool.{cases_Bool, lt-ltb, le-ltb, ltb-true, ltb-false, not-false, true≢false}
+use Rattle.std.proofs.lemmas.Bool.{cases_Bool, lt-ltb, le-ltb, ltb-true, ltb-false}
 use Rattle.std.proofs.lemmas.List.{take-append-drop, take_at, drop_at, length-drop}
 use Rattle.pac_lex.specs.declared.token.TokenKind.{TokenKind}
 use Rattle.pac_lex.specs.declared.fault.LexFault.{LexFault}
@@ -21,8 +21,7 @@ reads line = gap-skipped line (after_gap line) refl
 -- ---- what is so is read
 
 comment-stops : (comment : List ℕ) → begins (λ b. not (is_comment_start b)) comment ≡ false → is_end comment ≡ true
-comment-stops [] e = refl
-comment-stops (c ∷ comment) e = not-false (is_comment_start c) e
+comment-stops comment e = search rules
 
 nothing-again : (line : List ℕ) → ReadsTokens line [] → scan 0 line ≡ Ok []
 nothing-again line h = next-none line (after_gap line) (reads line) (comment-stops (after_gap line) h)
@@ -37,36 +36,28 @@ first-again line token rest h =
 
 scan-again : (line : List ℕ) (tokens : List Lexeme) → ReadsTokens line tokens → scan 0 line ≡ Ok tokens
 scan-again line [] h = nothing-again line h
-scan-again line (token ∷ tokens) (rest, first, more) = first-again line token rest first
-    ∙ ap (token_before token) (scan-again rest tokens more)
+scan-again line (token ∷ tokens) (rest, first, more) = cc (first-again line token rest first, scan-again rest tokens more)
 
 break-again : (line : List ℕ) (tokens : List Lexeme) (fault : LexFault) → Breaks line tokens fault → scan 0 line ≡ Err fault
-break-again line [] fault h =
-    let told = fault-again (after_gap line) fault h in
-    next-fault line (after_gap line) fault (reads line) told.starts.no_end told.told
-break-again line (token ∷ tokens) fault (rest, first, more) = first-again line token rest first
-    ∙ ap (token_before token) (break-again rest tokens fault more)
+break-again line [] fault h = search (rules, fault-again, next-fault, reads)
+break-again line (token ∷ tokens) fault (rest, first, more) = cc (first-again line token rest first, break-again rest tokens fault more)
 
 -- ---- what is read is so
 
 end-is-comment : (rest : List ℕ) → is_end rest ≡ true → begins (λ b. not (is_comment_start b)) rest ≡ false
-end-is-comment [] e = refl
-end-is-comment (b ∷ rest) e = rw e refl
+end-is-comment rest e = search rules
 
 abbrev Read : Type 0
 Read = Result (List Lexeme) LexFault
 
 before-ok : (token t : Lexeme) (read : Read) (ts : List Lexeme) → token_before token read ≡ Ok (t ∷ ts) → (token ≡ t) × (read ≡ Ok ts)
-before-ok token t (Ok tokens) ts e = (cc, cc)
-before-ok token t (Err fault) ts e = absurd cc
+before-ok token t read ts e = search rules
 
 before-nil : (token : Lexeme) (read : Read) → token_before token read ≡ Ok [] → ⊥
-before-nil token (Ok tokens) e = cc
-before-nil token (Err fault) e = cc
+before-nil token read e = search rules
 
 before-err : (token : Lexeme) (read : Read) (fault : LexFault) → token_before token read ≡ Err fault → read ≡ Err fault
-before-err token (Ok tokens) fault e = absurd cc
-before-err token (Err f) fault e = cc
+before-err token read fault e = search rules
 
 -- what stands after the blanks
 data First (line : List ℕ) : Type 0 where
@@ -76,8 +67,7 @@ data First (line : List ℕ) : Type 0 where
       → First line
 
 some-left : (rest : List ℕ) → is_end rest ≡ false → 0 < length rest
-some-left [] e = absurd (true≢false e)
-some-left (b ∷ rest) e = omega arith
+some-left rest e = search rules
 
 found-or-not : (found : Result (TokenKind × ℕ) LexFault) → ((x : TokenKind × ℕ) × (found ≡ Ok x)) ⊎ ((f : LexFault) × (found ≡ Err f))
 found-or-not (Ok x) = inl (x, refl)
@@ -172,5 +162,4 @@ found-in line tokens f short h = rw (le-ltb 255 (length line) short) (break-agai
 
 pub fault-found : (line : List ℕ) (f : LexFault) → HasLexFault line f → tokens_of line ≡ Err f
 unfolding tokens_of
-fault-found line LongLine h = rw (lt-ltb 255 (length line) h) refl
-fault-found line f (short, tokens, h) = found-in line tokens f short h
+fault-found line f h = grind (arith, found-in, lt-ltb)

@@ -1,5 +1,5 @@
 -- The first of the lines of a text.
-use Rattle.std.proofs.Common.{◌≡◌, ℕ, ◌<◌, Bool, eqb, ltb, List, [], ◌∷◌, length, take, drop, Some, None, refl}
+use Rattle.std.proofs.Common.{◌≡◌, ℕ, ◌<◌, Bool, eqb, ltb, List, [], ◌∷◌, length, take, drop, Some, None, refl, rules}
 use Rattle.std.proofs.Common.{ap, ◌∙◌, arith, position}
 use Rattle.std.specs.List.{slice_split, position_or_len, before_first, after_first}
 use Rattle.std.specs.Str.Lines.{lines, lines_of_parts, strip_carriage_return}
@@ -14,8 +14,7 @@ is_feed b = eqb b 10
 
 lines-of-more : (x : List ℕ) (parts : List (List ℕ)) → 0 < length parts
     → lines_of_parts (x ∷ parts) ≡ strip_carriage_return x ∷ lines_of_parts parts
-lines-of-more x [] h = absurd (omega arith)
-lines-of-more x (y ∷ parts) h = refl
+lines-of-more x parts h = search rules
 
 pub lines-first : (bs : List ℕ) (end : ℕ) → position (λ b. eqb b 10) bs ≡ Some end
     → lines bs ≡ strip_carriage_return (take end bs) ∷ lines (drop 1 (drop end bs))

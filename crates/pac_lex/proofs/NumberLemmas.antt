@@ -13,9 +13,7 @@ with_digits base n digits =
 
 grows : (base n : ℕ) (digits : List ℕ) → 0 < base → n ≤ fold (λ m c. m * base + value_of_digit c) n digits
 grows base n [] h = omega arith
-grows base n (c ∷ digits) h =
-    let one : n * 1 ≤ n * base = mul-le-mul_left n h in
-    le_trans (omega (arith, one)) (grows base (n * base + value_of_digit c) digits h)
+grows base n (c ∷ digits) h = le_trans (omega (arith, mul-le-mul_left n h)) (grows base (n * base + value_of_digit c) digits h)
 
 pub too-large : (base n c : ℕ) (digits : List ℕ) → 0 < base → 65535 < n * base + value_of_digit c → with_digits base n (c ∷ digits) ≡ None
 too-large base n c digits h large = grind (arith, and_right, cond-false, grows, le-ltb)

@@ -1,6 +1,6 @@
 -- The longest prefix of a list whose bytes pass a test.
-use Rattle.std.proofs.Common.{◌≡◌, ℕ, zero, suc, ◌<◌, Bool, true, false, List, [], ◌∷◌, ◌++◌, length, take, drop, refl, ap, arith, inl, inr}
-use Rattle.std.proofs.Common.{one-add}
+use Rattle.std.proofs.Common.{◌≡◌, ℕ, suc, ◌<◌, Bool, true, false, List, [], ◌∷◌, ◌++◌, length, take, drop, refl, ap, inl, inr}
+use Rattle.std.proofs.Common.{one-add, rules}
 use Rattle.std.specs.List.{prefix_len, list_all}
 use Rattle.std.proofs.lemmas.Bool.{cases_Bool, and_parts}
 use Rattle.pac_lex.specs.Tokens.{begins}
@@ -21,6 +21,4 @@ begins-after p (b ∷ bytes) = elim (cases_Bool (p b)) [
 ]
 
 pub begins-take : (p : ℕ → Bool) (n : ℕ) (xs : List ℕ) → 0 < n → begins p (take n xs) ≡ begins p xs
-begins-take p zero xs h = absurd (omega arith)
-begins-take p (suc n) [] h = refl
-begins-take p (suc n) (x ∷ xs) h = refl
+begins-take p n xs h = search rules

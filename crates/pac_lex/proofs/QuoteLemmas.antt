@@ -1,7 +1,7 @@
 -- Where a text ends.
 use Rattle.std.proofs.lemmas.Grind.{common_steps}
-use Rattle.std.proofs.Common.{◌≡◌, ℕ, ◌+◌, ◌<◌, ◌≢◌, true, false, List, [], ◌∷◌, drop, get_or, length, Option, Some, None}
-use Rattle.std.proofs.Common.{option_map, refl, ap, arith}
+use Rattle.std.proofs.Common.{◌≡◌, ℕ, ◌+◌, ◌<◌, ◌≢◌, true, false, List, ◌∷◌, drop, get_or, length, Option, Some, rules}
+use Rattle.std.proofs.Common.{option_map, refl, arith}
 use Rattle.std.proofs.lemmas.Bool.{ne_eqb, eq-eqb}
 use Rattle.std.proofs.lemmas.List.{drop_more, at_drop_more}
 use Rattle.pac_lex.specs.Bytes.{is_quote}
@@ -12,20 +12,17 @@ abbrev pub more : ℕ → Option ℕ → Option ℕ
 more n o = option_map (λ k. k + n) o
 
 more-more : (m n : ℕ) (o : Option ℕ) → more m (more n o) ≡ more (m + n) o
-more-more m n None = refl
-more-more m n (Some k) = ap (λ (x : ℕ). Some x) (omega arith)
+more-more m n o = search rules
 
 pub closing-other : (b : ℕ) (bytes : List ℕ) → is_quote b ≡ false → closing_length (b ∷ bytes) ≡ more 1 (closing_length bytes)
-closing-other b [] e = rw e refl
-closing-other b (c ∷ bytes) e = rw e refl
+closing-other b bytes e = grind (arith, common_steps)
 
 pub closing-doubled : (b c : ℕ) (bytes : List ℕ) → is_quote b ≡ true → is_quote c ≡ true →
     closing_length (b ∷ c ∷ bytes) ≡ more 2 (closing_length bytes)
 closing-doubled b c bytes e f = rw (e, f) refl
 
 pub closing-single : (b : ℕ) (bytes : List ℕ) → is_quote b ≡ true → begins is_quote bytes ≡ false → closing_length (b ∷ bytes) ≡ Some 1
-closing-single b [] e f = rw e refl
-closing-single b (c ∷ bytes) e f = rw (e, f) refl
+closing-single b bytes e f = search rules
 
 -- the byte at a place, with what follows it
 here : (bytes : List ℕ) (at : ℕ) → at < length bytes →

@@ -1,6 +1,7 @@
 -- A line read token by token.
+use Rattle.std.proofs.lemmas.Grind.{common_steps}
 use Rattle.std.proofs.Common.{◌≡◌, ℕ, zero, suc, ◌<◌, true, false, List, [], ◌∷◌, ◌++◌, drop, Result, Ok, Err, refl, sym, ap, ◌∙◌}
-use Rattle.std.proofs.Common.{arith, append_assoc, one-add, append-nil, inl, inr}
+use Rattle.std.proofs.Common.{arith, one-add, append-nil, inl, inr}
 use Rattle.std.proofs.lemmas.Bool.{cases_Bool}
 use Rattle.pac_lex.specs.declared.token.TokenKind.{TokenKind}
 use Rattle.pac_lex.specs.declared.fault.LexFault.{LexFault}
@@ -37,8 +38,7 @@ scan-token : (b : ℕ) (bytes : List ℕ) (kind : TokenKind) (len : ℕ) → is_
     → token_at (b ∷ bytes) ≡ Ok (kind, len) → 0 < len
     → scan 0 (b ∷ bytes) ≡ token_before (cut_token kind len (b ∷ bytes)) (scan 0 (drop len (b ∷ bytes)))
 unfolding scan
-scan-token b bytes kind zero e f g h = absurd (omega arith)
-scan-token b bytes kind (suc len) e f g h = grind (arith, scan-skip)
+scan-token b bytes kind len e f g h = grind (arith, scan-skip)
 
 scan-gap : (line : List ℕ) → scan 0 line ≡ scan 0 (after_gap line)
 scan-gap [] = refl
@@ -56,20 +56,17 @@ pub gap-skipped : (line rest : List ℕ) → rest ≡ after_gap line → AfterGa
 gap-skipped line rest e = rw e record { same = scan-gap line; no_blank = begins-after is_blank line }
 
 pub next-none : (line rest : List ℕ) → AfterGap line rest → is_end rest ≡ true → scan 0 line ≡ Ok []
-next-none line [] g e = g.same ∙ scan-end
-next-none line (b ∷ rest) g e = g.same ∙ scan-comment b rest g.no_blank e
+next-none line rest g e = grind (arith, scan-comment, scan-end)
 
 pub next-fault : (line rest : List ℕ) (fault : LexFault) → AfterGap line rest → is_end rest ≡ false → token_at rest ≡ Err fault
     → scan 0 line ≡ Err fault
-next-fault line [] fault g e f = absurd cc
-next-fault line (b ∷ rest) fault g e f = g.same ∙ scan-fault b rest fault g.no_blank e f
+next-fault line rest fault g e f = grind (arith, scan-fault)
 
 pub next-some : (line rest : List ℕ) (kind : TokenKind) (len : ℕ) → AfterGap line rest → is_end rest ≡ false →
     token_at rest ≡ Ok (kind, len)
     → 0 < len
     → scan 0 line ≡ token_before (cut_token kind len rest) (scan 0 (drop len rest))
-next-some line [] kind len g e f h = absurd cc
-next-some line (b ∷ rest) kind len g e f h = g.same ∙ scan-token b rest kind len g.no_blank e f h
+next-some line rest kind len g e f h = grind (arith, scan-token)
 
 -- what was read before, and what is still read
 abbrev pub with_earlier : List Lexeme → Result (List Lexeme) LexFault → Result (List Lexeme) LexFault
@@ -78,8 +75,7 @@ with_earlier earlier (Err fault) = Err fault
 
 regroup : (earlier : List Lexeme) (token : Lexeme) (read : Result (List Lexeme) LexFault)
     → with_earlier earlier (token_before token read) ≡ with_earlier (earlier ++ token ∷ []) read
-regroup earlier token (Ok tokens) = ap (λ (ts : List Lexeme). Ok ts) (simp append_assoc)
-regroup earlier token (Err fault) = refl
+regroup earlier token read = grind (arith, common_steps)
 
 pub goes-on : (earlier : List Lexeme) (token : Lexeme) (line after : List ℕ) (total : Result (List Lexeme) LexFault)
     → scan 0 line ≡ token_before token (scan 0 after) → with_earlier earlier (scan 0 line) ≡ total

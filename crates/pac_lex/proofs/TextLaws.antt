@@ -1,7 +1,6 @@
 -- A text ends where its characters, each quote doubled, end in one quote.
-use Rattle.std.proofs.Common.{rules}
-use Rattle.std.proofs.Common.{◌≡◌, ℕ, suc, ◌+◌, true, false, cond, List, [], ◌∷◌, ◌++◌, length, take, drop, Option, Some, None, refl}
-use Rattle.std.proofs.Common.{ap, ◌∙◌, arith, inl, inr, subst, flat_map}
+use Rattle.std.proofs.Common.{rules, ◌≡◌, ℕ, suc, ◌+◌, true, false, cond, List, [], ◌∷◌, ◌++◌, length, take, drop, Option, Some, refl}
+use Rattle.std.proofs.Common.{arith, inl, inr, subst, flat_map}
 use Rattle.std.specs.List.{list_all}
 use Rattle.std.proofs.lemmas.Bool.{cases_Bool, eqb-true}
 use Rattle.std.proofs.lemmas.Option.{same_Some, none-some}
@@ -13,8 +12,7 @@ use Rattle.pac_lex.proofs.ByteLemmas.{chosen}
 use Rattle.pac_lex.proofs.QuoteLemmas.{more, closing-other, closing-doubled, closing-single}
 
 more-some : (k : ℕ) (o : Option ℕ) (n : ℕ) → more k o ≡ Some n → (m : ℕ) × (o ≡ Some m) × (m + k ≡ n)
-more-some k None n e = absurd (none-some n e)
-more-some k (Some m) n e = (m, refl, same_Some _ _ e)
+more-some k o n e = search rules
 
 -- the characters of a text that ends after these bytes
 pub record Closes (bytes : List ℕ) (n : ℕ) : Type 0 where
@@ -72,15 +70,7 @@ pub closing-again : (characters rest : List ℕ) → begins is_quote rest ≡ fa
     → closing_length (flat_map quoted_character characters ++ (39 ∷ rest)) ≡ Some (length (flat_map quoted_character characters) + 1)
 closing-again [] rest stop = closing-single 39 rest refl stop
 closing-again (c ∷ characters) rest stop =
-    let h = closing-again characters rest stop in
-    elim (cases_Bool (is_quote c)) [
-      | inl q ↦
-          rw q (closing-doubled 39 39 (flat_map quoted_character characters ++ (39 ∷ rest)) refl refl ∙ ap (more 2) h
-          ∙ ap (λ (k : ℕ). Some k) (plus-two (length (flat_map quoted_character characters))))
-      | inr q ↦
-          rw q (closing-other c (flat_map quoted_character characters ++ (39 ∷ rest)) q ∙ ap (more 1) h
-          ∙ ap (λ (k : ℕ). Some k) (plus-one (length (flat_map quoted_character characters))))
-    ]
+    let h = closing-again characters rest stop in grind (arith, cases_Bool, closing-doubled, closing-other, more, plus-one, plus-two)
 
 pub printable-quoted : (characters : List ℕ)
     → list_all is_printable (flat_map quoted_character characters ++ 39 ∷ []) ≡ list_all is_printable characters

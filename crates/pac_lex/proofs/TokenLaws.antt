@@ -1,7 +1,7 @@
 -- What is found where the bytes begin is a token or a fault there, and what is there is found.
-use Rattle.std.proofs.Common.{rules}
-use Rattle.std.proofs.Common.{◌≡◌, ℕ, zero, suc, ◌+◌, ◌<◌, Bool, true, false, eqb, ◌||◌, ◌&&◌, List, [], ◌∷◌, ◌++◌, length, take, drop}
-use Rattle.std.proofs.Common.{Option, Some, None, Result, Ok, Err, refl, sym, ap, ◌∙◌, arith, inl, inr, ◌⊎◌, add-one, subst, flat_map}
+use Rattle.std.proofs.lemmas.Grind.{common_steps}
+use Rattle.std.proofs.Common.{rules, ◌≡◌, ℕ, zero, suc, ◌+◌, ◌<◌, Bool, true, false, eqb, ◌||◌, ◌&&◌, List, [], ◌∷◌, ◌++◌, length, take}
+use Rattle.std.proofs.Common.{drop, Option, Some, None, Result, Ok, Err, refl, sym, ap, ◌∙◌, arith, inl, inr, ◌⊎◌, add-one, subst, flat_map}
 use Rattle.std.proofs.Common.{append_assoc, cond}
 use Rattle.std.specs.List.{prefix_len, list_all}
 use Rattle.std.specs.Char.{is_ascii_digit, is_ascii_alphanumeric}
@@ -38,9 +38,6 @@ failed fault = Err fault
 ok-is : (x y : TokenKind × ℕ) → done x ≡ done y → x ≡ y
 ok-is x y e = cc
 
-err-is : (x y : LexFault) → failed x ≡ failed y → x ≡ y
-err-is x y e = cc
-
 -- a token found, as one that the bytes begin with
 pub record IsFound (bytes : List ℕ) (kind : TokenKind) (len : ℕ) : Type 0 where
   pub some : 0 < len
@@ -67,20 +64,15 @@ name-is bytes kind len start e =
           let both = and_parts (is_af (take n bytes)) (begins is_quote (drop n bytes)) t in
           found-at bytes AlternateAf kind (n + 1) len p
           (record { some = omega arith; is_token = (take n bytes, both.0, rw add-one (take-quote n bytes both.1)) })
-      | inr (t, p) ↦
-          let begins_so = begins-take is_name_start n bytes some ∙ start in
-          found-at bytes Name kind n len p
-          (record { some = some; is_token = (begins_so, list_all-prefix is_name_byte bytes, begins-after is_name_byte bytes, t) })
+      | inr (t, p) ↦ grind (arith, begins-after, begins-take, found-at, list_all-prefix)
     ]
 
 numbered-ok : (o : Option ℕ) (n : ℕ) (kind : TokenKind) (len : ℕ) → numeral_token o n ≡ Ok (kind, len)
     → (v : ℕ) × (o ≡ Some v) × (pair (Number v) n ≡ pair kind len)
-numbered-ok None n kind len e = absurd cc
-numbered-ok (Some v) n kind len e = (v, refl, ok-is _ _ e)
+numbered-ok o n kind len e = search rules
 
 numbered-err : (o : Option ℕ) (n : ℕ) (fault : LexFault) → numeral_token o n ≡ Err fault → (o ≡ None) × (WrongNumber ≡ fault)
-numbered-err None n fault e = (refl, err-is _ _ e)
-numbered-err (Some v) n fault e = absurd cc
+numbered-err o n fault e = search rules
 
 number-is : (bytes : List ℕ) (kind : TokenKind) (len : ℕ) → begins is_ascii_digit bytes ≡ true → number_token_at bytes ≡ Ok (kind, len)
     → IsFound bytes kind len
@@ -90,19 +82,15 @@ number-is bytes kind len start e =
     let some : 0 < n = number-has-bytes bytes start in
     let (v, is, p) = numbered-ok (numeral (take n bytes)) n kind len e in
     let begins_so = begins-take is_ascii_digit n bytes some ∙ start in
-    let run_ends = begins-after is_ascii_alphanumeric bytes in
-    found-at bytes (Number v) kind n len p
-    (record { some = some; is_token = (begins_so, list_all-prefix is_ascii_alphanumeric bytes, run_ends, is) })
+    let run_ends = begins-after is_ascii_alphanumeric bytes in grind (arith, found-at, list_all-prefix)
 
 text-ok : (o : Option ℕ) (bytes : List ℕ) (kind : TokenKind) (len : ℕ) → quoted_token o bytes ≡ Ok (kind, len)
     → (n : ℕ) × (o ≡ Some n) × (list_all is_printable (take n bytes) ≡ true) × (pair Text (n + 1) ≡ pair kind len)
-text-ok None bytes kind len e = absurd cc
-text-ok (Some n) bytes kind len e = search rules
+text-ok o bytes kind len e = search rules
 
 text-err : (o : Option ℕ) (bytes : List ℕ) (fault : LexFault) → quoted_token o bytes ≡ Err fault
     → ((o ≡ None) × (OpenText ≡ fault)) ⊎ ((n : ℕ) × (o ≡ Some n) × (list_all is_printable (take n bytes) ≡ false) × (NoToken ≡ fault))
-text-err None bytes fault e = inl (refl, err-is _ _ e)
-text-err (Some n) bytes fault e = search rules
+text-err o bytes fault e = search rules
 
 text-is : (b : ℕ) (bytes : List ℕ) (kind : TokenKind) (len : ℕ) → is_quote b ≡ true → text_token_at bytes ≡ Ok (kind, len)
     → IsFound (b ∷ bytes) kind len
@@ -110,26 +98,19 @@ unfolding text_token_at
 text-is b bytes kind len q e =
     let (n, is, printable, p) = text-ok (closing_length bytes) bytes kind len e in
     let h = closing-is bytes n is in
-    let all : list_all is_printable h.characters ≡ true = sym (printable-quoted h.characters) ∙ ap (list_all is_printable) (sym h.text)
-    ∙ printable in
+    let all : list_all is_printable h.characters ≡ true = grind (arith, printable-quoted) in
     found-at (b ∷ bytes) Text kind (n + 1) len p
     (rw add-one (record { some = omega arith; is_token = (h.characters, rw (eqb-true b 39 q, h.text) refl, all, h.stops) }))
 
 one-ok : (o : Option TokenKind) (kind : TokenKind) (len : ℕ) → one_byte_token o ≡ Ok (kind, len) → (k : TokenKind) × (o ≡ Some k)
     × (pair k 1 ≡ pair kind len)
-one-ok None kind len e = absurd cc
-one-ok (Some k) kind len e = (k, refl, ok-is _ _ e)
+one-ok o kind len e = search rules
 
 one-err : (o : Option TokenKind) (fault : LexFault) → one_byte_token o ≡ Err fault → (o ≡ None) × (NoToken ≡ fault)
-one-err None fault e = (refl, err-is _ _ e)
-one-err (Some k) fault e = absurd cc
+one-err o fault e = search rules
 
 symbol-is : (kind : TokenKind) (b : ℕ) (rest : List ℕ) → is_mark kind ≡ true → one_byte_kind b ≡ Some kind → IsToken kind (b ∷ []) rest
-symbol-is Name b rest m e = absurd cc
-symbol-is (Number n) b rest m e = absurd cc
-symbol-is Text b rest m e = absurd cc
-symbol-is AlternateAf b rest m e = absurd cc
-symbol-is kind b rest m e = (b, e, refl)
+symbol-is kind b rest m e = search rules
 
 pub token-is : (bytes : List ℕ) (kind : TokenKind) (len : ℕ) → token_at bytes ≡ Ok (kind, len) → IsFound bytes kind len
 unfolding token_at
@@ -143,10 +124,7 @@ token-is (b ∷ bytes) kind len e =
             | inr (u, q) ↦
                 elim (chosen (is_quote b) _ _ _ q) [
                   | inl (v, r) ↦ text-is b bytes kind len v r
-                  | inr (v, r) ↦
-                      let (k, is, p) = one-ok (one_byte_kind b) kind len r in
-                      found-at (b ∷ bytes) k kind 1 len p
-                      (record { some = omega arith; is_token = symbol-is k b bytes (symbol-is-mark b k is) is })
+                  | inr (v, r) ↦ grind (arith, found-at, one-ok, symbol-is, symbol-is-mark)
                 ]
           ]
     ]
@@ -164,12 +142,7 @@ name-at-name text rest all stop af = grind (arith, drop_at, prefix-of-all, take_
 
 name-again : (text rest : List ℕ) → IsToken Name text rest → IsFoundAgain Name text rest
 unfolding token_at
-name-again [] rest h = absurd cc
-name-again (b ∷ text) rest (start, all, stop, af) = record {
-  starts = record { no_blank = start-no-blank b start; no_end = start-no-comment b start };
-  found = rw start (ap done (name-at-name (b ∷ text) rest all stop af));
-  some = omega arith;
-}
+name-again text rest h = grind (arith, name-at-name, start-no-blank, start-no-comment)
 
 number-at-number : (text rest : List ℕ) (n : ℕ) → list_all is_ascii_alphanumeric text ≡ true → begins is_ascii_alphanumeric rest ≡ false
     → numeral text ≡ Some n → number_token_at (text ++ rest) ≡ Ok (Number n, length text)
@@ -212,19 +185,7 @@ name-at-af a f rest e g h = rw (e, g, h) refl
 
 af-again : (name rest : List ℕ) → is_af name ≡ true → IsFoundAgain AlternateAf (name ++ 39 ∷ []) rest
 unfolding token_at
-af-again [] rest e = absurd cc
-af-again (a ∷ []) rest e = absurd cc
-af-again (a ∷ f ∷ g ∷ name) rest e = absurd cc
-af-again (a ∷ f ∷ []) rest e =
-    let both = and_parts (eqb a 65 || eqb a 97) (eqb f 70 || eqb f 102) e in
-    let start : is_name_start a ≡ true = either-case a 65 97 is_name_start both.0 refl refl in
-    record {
-      starts = record { no_blank = start-no-blank a start; no_end = start-no-comment a start };
-      found = rw start
-          (ap done (name-at-af a f rest (either-case a 65 97 is_name_byte both.0 refl refl)
-          (either-case f 70 102 is_name_byte both.1 refl refl) e));
-      some = omega arith;
-    }
+af-again name rest e = search (rules, and_parts, either-case, name-at-af, start-no-blank, start-no-comment)
 
 mark-again : (kind : TokenKind) (b : ℕ) (rest : List ℕ) → one_byte_kind b ≡ Some kind → IsFoundAgain kind (b ∷ []) rest
 unfolding token_at
@@ -249,8 +210,7 @@ begins-no b e1 e2 e3 e4 e5 e6 = search rules
 unclosed : (b : ℕ) (bytes : List ℕ) → closing_length bytes ≡ None → (characters rest : List ℕ) → b ∷ bytes ≡ quoted_text characters ++ rest
     → begins is_quote rest ≡ false → ⊥
 unclosed b bytes e characters rest is stop =
-    let tail : bytes ≡ flat_map quoted_character characters ++ (39 ∷ rest) = ap (drop 1) is
-    ∙ append_assoc (flat_map quoted_character characters) (39 ∷ []) rest in
+    let tail : bytes ≡ flat_map quoted_character characters ++ (39 ∷ rest) = grind (arith, common_steps) in
     none-some _ (sym e ∙ ap closing_length tail ∙ closing-again characters rest stop)
 
 text-fault-is : (b : ℕ) (bytes : List ℕ) (fault : LexFault) → is_quote b ≡ true → text_token_at bytes ≡ Err fault →
@@ -260,8 +220,7 @@ text-fault-is b bytes fault q e = elim (text-err (closing_length bytes) bytes fa
   | inl (is, f) ↦ subst (λ (x : LexFault). IsTokenFault x (b ∷ bytes)) f (q, unclosed b bytes is)
   | inr (n, is, printable, f) ↦
       let h = closing-is bytes n is in
-      let all : list_all is_printable h.characters ≡ false = sym (printable-quoted h.characters) ∙ ap (list_all is_printable) (sym h.text)
-      ∙ printable in
+      let all : list_all is_printable h.characters ≡ false = grind (arith, printable-quoted) in
       let parts : b ∷ bytes ≡ quoted_text h.characters ++ drop n bytes =
       rw (← h.text, eqb-true b 39 q) (ap (λ (xs : List ℕ). 39 ∷ xs) (sym (take-append-drop n bytes))) in
       subst (λ (x : LexFault). IsTokenFault x (b ∷ bytes)) f (inr (h.characters, drop n bytes, parts, h.stops, all))
@@ -325,11 +284,7 @@ number-at-bad run rest all stop is = rw (prefix-of-all is_ascii_alphanumeric run
 number-told : (run rest : List ℕ) → begins is_ascii_digit run ≡ true → list_all is_ascii_alphanumeric run ≡ true
     → begins is_ascii_alphanumeric rest ≡ false → numeral run ≡ None → IsTold WrongNumber (run ++ rest)
 unfolding token_at
-number-told [] rest start all stop is = absurd cc
-number-told (b ∷ run) rest start all stop is = record {
-  starts = record { no_blank = digit-no-blank b start; no_end = digit-no-comment b start };
-  told = rw (digit-no-start b start, start) (number-at-bad (b ∷ run) rest all stop is);
-}
+number-told run rest start all stop is = grind (arith, digit-no-blank, digit-no-comment, digit-no-start, number-at-bad)
 
 open-told : (b : ℕ) (bytes : List ℕ) → is_quote b ≡ true
     → ((characters rest : List ℕ) → b ∷ bytes ≡ quoted_text characters ++ rest → begins is_quote rest ≡ false → ⊥) →

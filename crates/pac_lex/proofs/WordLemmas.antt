@@ -1,6 +1,6 @@
 -- The first word of a line, and the words after it.
 use Rattle.std.proofs.Common.{◌≡◌, ℕ, ◌<◌, true, false, List, [], ◌∷◌, length, take, drop, refl, sym, ap, ◌∙◌, arith, one-add, suc, inl}
-use Rattle.std.proofs.Common.{inr, subst}
+use Rattle.std.proofs.Common.{inr, subst, rules}
 use Rattle.std.specs.List.{prefix_len, filter}
 use Rattle.std.proofs.lemmas.Bool.{cases_Bool}
 use Rattle.pac_lemmas.proofs.Parts.{part_end, parts_after, first-part, part-more, part-stops}
@@ -30,8 +30,7 @@ after-word (b ∷ bytes) = elim (cases_Bool (is_blank b)) [
 
 filled-first : (word : List ℕ) (parts : List (List ℕ)) → 0 < length word →
     filter (begins (λ b. true)) (word ∷ parts) ≡ word ∷ filter (begins (λ b. true)) parts
-filled-first [] parts h = absurd (omega (arith, h))
-filled-first (b ∷ word) parts h = refl
+filled-first word parts h = search rules
 
 -- the first word of a line is where these bytes begin
 abbrev pub BeginsWord : List ℕ → List ℕ → Type 0

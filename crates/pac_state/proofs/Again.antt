@@ -1,12 +1,8 @@
 -- A state that is read back out of its text.
-use Rattle.std.proofs.Common.{◌≡◌, ℕ, ℤ, pos, ◌<◌, ◌^◌, ◌==◌, Bool, true, false, List, Option, Some, None, is_some, unwrap_or}
-use Rattle.std.proofs.Common.{slice_index, refl, ap, ◌∙◌, arith}
-use Rattle.std.proofs.Math.Facts.{Fits-of_z}
-use Rattle.std.proofs.lemmas.Int.{to_z-of_z}
+use Rattle.std.proofs.Common.{◌≡◌, ℕ, ℤ, ◌<◌, ◌^◌, ◌==◌, Bool, List, Option, rules, refl, ap, ◌∙◌, arith}
 use Rattle.std.proofs.lemmas.Nat.{from_le_bytes-to_le_bytes_2, from_le_bytes-to_le_bytes_4, from_le_bytes-to_le_bytes_8}
-use Rattle.std.specs.Int.{w16, w32, w64, from_le_bytes, cast_signed, cast_unsigned}
+use Rattle.std.specs.Int.{w32, w64, from_le_bytes}
 use Rattle.pac_board.specs.InterruptMode.{InterruptMode}
-use Rattle.pac_board.specs.InterruptModeVariants.{Zero, One, Two}
 use Rattle.pac_board.specs.Regs.{Regs}
 use Rattle.pac_board.specs.Latched.{Bits, binary_digit}
 use Rattle.pac_board.proofs.LatchBits.{bits_of-byte_of}
@@ -18,9 +14,7 @@ use Rattle.pac_board.specs.State.{BoardState}
 use Rattle.pac_out.specs.Pieces.{joined_pieces}
 use Rattle.pac_state.specs.Text.{saved_word, number_of_mode, processor_bytes, control_bytes, due_bytes, sealed_file, body, save_text}
 use Rattle.pac_state.specs.Text as text
-use Rattle.pac_state.specs.Reading.{bytes_at_place, saved_word_at, is_bit_set, mode_of, regs_of}
-use Rattle.pac_state.specs.Reading.{due_sample, due_of, lines_of, controls_in, memory_of}
-use Rattle.pac_state.specs.Reading.{state_in}
+use Rattle.pac_state.specs.Reading.{bytes_at_place, mode_of, regs_of, due_of, lines_of, controls_in, memory_of, state_in}
 use Rattle.pac_state.specs.Files.{AreWords, FitsSample, IsState}
 use Rattle.pac_state.proofs.Read.{same-state}
 use Rattle.pac_state.proofs.Written.{HasPieces, has-pieces, has-picture, lines-again, length-sha1}
@@ -28,22 +22,7 @@ use Rattle.pac_state.proofs.Written.{HasPieces, has-pieces, has-picture, lines-a
 -- ---- the processor
 
 mode-again : (mode : InterruptMode) → mode_of (number_of_mode mode) ≡ mode
-mode-again Zero = refl
-mode-again One = refl
-mode-again Two = refl
-
--- the low bits of a byte whose others are 0
-abbrev low_bits : (first second third fourth : Bool) → Bits
-low_bits first second third fourth = record {
-  interrupt_enable = first;
-  sound_enable = second;
-  auxiliary = third;
-  flip = fourth;
-  lamp_1 = false;
-  lamp_2 = false;
-  coin_lockout = false;
-  coin_counter = false;
-}
+mode-again mode = search rules
 
 abbrev with_words : Regs → (ix iy sp pc : ℕ) (iff1 iff2 : Bool) → InterruptMode → (halted after_ei : Bool) → Regs
 with_words regs ix iy sp pc iff1 iff2 mode halted after_ei = record regs {
@@ -66,18 +45,12 @@ same-words regs a b c d e f g h i = rw (a, b, c, d, e, f, g, h, i) refl
 
 regs-again : (regs : Regs) → AreWords regs → regs_of (processor_bytes regs) ≡ regs
 unfolding processor_bytes
-regs-again regs words =
-    let bits = bits_of-byte_of (low_bits regs.iff1 regs.iff2 regs.halted regs.after_ei) in
-    same-words regs (from_le_bytes-to_le_bytes_2 regs.ix words.ix) (from_le_bytes-to_le_bytes_2 regs.iy words.iy)
-    (from_le_bytes-to_le_bytes_2 regs.sp words.sp) (from_le_bytes-to_le_bytes_2 regs.pc words.pc)
-    (ap (λ (bits : Bits). bits.interrupt_enable) bits) (ap (λ (bits : Bits). bits.sound_enable) bits) (mode-again regs.mode)
-    (ap (λ (bits : Bits). bits.auxiliary) bits) (ap (λ (bits : Bits). bits.flip) bits)
+regs-again regs words = grind (arith, bits_of-byte_of, from_le_bytes-to_le_bytes_2, mode-again, same-words)
 
 -- ---- the memory
 
 digit-again : (bit : Bool) → (binary_digit bit == 1) ≡ bit
-digit-again true = refl
-digit-again false = refl
+digit-again bit = search rules
 
 abbrev view : (switches held : ℕ) → (tile colour work coordinates registers : List ℕ) → Bits → ℕ → Bool → ℕ → View
 view switches held tile colour work coordinates registers bits vector request count = record {
@@ -110,50 +83,30 @@ memory-again version digest bytes state pieces held =
 
 -- ---- what is due
 
-sample-again : (sample : Option ℤ) → FitsSample sample
-    → due_sample (is_some sample) (from_le_bytes w16 (saved_word (cast_unsigned w16 (unwrap_or sample (pos 0))))) ≡ sample
-sample-again None fits = refl
-sample-again (Some sample) fits =
-    let bound = Fits-of_z {w = w16} {z = sample} fits in
-    ap (λ n. Some (cast_signed w16 n)) (from_le_bytes-to_le_bytes_2 (cast_unsigned w16 sample) bound.fits)
-    ∙ ap (λ sample. Some sample) (to_z-of_z w16 sample fits)
-
 abbrev waiting : Option ℤ → Bool → Due
 waiting sample picture = record { sample = sample; picture = picture }
 
 due-again : (due : Due) → FitsSample due.sample → due_of (text.due_bytes due) ≡ due
 unfolding text.due_bytes
-due-again due fits =
-    let bits = bits_of-byte_of (low_bits (is_some due.sample) due.picture false false) in
-    let first : is_bit_set (slice_index (text.due_bytes due) 0) 0 ≡ is_some due.sample =
-    ap (λ (bits : Bits). bits.interrupt_enable) bits in
-    let second : is_bit_set (slice_index (text.due_bytes due) 0) 1 ≡ due.picture =
-    ap (λ (bits : Bits). bits.sound_enable) bits in
-    let sample : due_sample (is_bit_set (slice_index (text.due_bytes due) 0) 0) (saved_word_at 1 (text.due_bytes due))
-    ≡ due.sample =
-    ap (λ is_due. due_sample is_due (saved_word_at 1 (text.due_bytes due))) first ∙ sample-again due.sample fits in
-    ap (λ sample. waiting sample (is_bit_set (slice_index (text.due_bytes due) 0) 1)) sample ∙ ap (waiting due.sample) second
+due-again due fits = search rules
 
 -- ---- the whole
 
 pub same-again : (version : ℕ) (of_set bytes : List ℕ) (state : BoardState) → IsState state → HasPieces version of_set state bytes
     → bytes_at_place 3224 64512 bytes ≡ joined_pieces state.now.board.lines → state_in bytes ≡ state
 same-again version of_set bytes state is pieces picture =
-    let time = is.range.time in
-    let steps = is.range.steps in
-    let asked = is.range.asked in
     same-state (ap regs_of pieces.processor ∙ regs-again state.now.regs is.words)
     (memory-again version of_set bytes state pieces is.held)
     (ap (from_le_bytes w32) pieces.first
-    ∙ from_le_bytes-to_le_bytes_4 state.now.board.accumulators.first (let below = is.range.accumulators.first in omega (arith, below)))
+    ∙ from_le_bytes-to_le_bytes_4 state.now.board.accumulators.first (omega arith))
     (ap (from_le_bytes w32) pieces.second
-    ∙ from_le_bytes-to_le_bytes_4 state.now.board.accumulators.second (let below = is.range.accumulators.second in omega (arith, below)))
+    ∙ from_le_bytes-to_le_bytes_4 state.now.board.accumulators.second (omega arith))
     (ap (from_le_bytes w32) pieces.third
-    ∙ from_le_bytes-to_le_bytes_4 state.now.board.accumulators.third (let below = is.range.accumulators.third in omega (arith, below)))
+    ∙ from_le_bytes-to_le_bytes_4 state.now.board.accumulators.third (omega arith))
     (ap lines_of picture ∙ lines-again state.now.board.lines is.range.picture)
-    (ap (from_le_bytes w64) pieces.time ∙ from_le_bytes-to_le_bytes_8 state.now.time (omega (arith, time)))
-    (ap (from_le_bytes w64) pieces.steps ∙ from_le_bytes-to_le_bytes_8 state.now.steps (omega (arith, time, steps)))
-    (ap (from_le_bytes w64) pieces.asked ∙ from_le_bytes-to_le_bytes_8 state.asked (omega (arith, asked)))
+    (ap (from_le_bytes w64) pieces.time ∙ from_le_bytes-to_le_bytes_8 state.now.time (omega arith))
+    (ap (from_le_bytes w64) pieces.steps ∙ from_le_bytes-to_le_bytes_8 state.now.steps (omega arith))
+    (ap (from_le_bytes w64) pieces.asked ∙ from_le_bytes-to_le_bytes_8 state.asked (omega arith))
     (ap due_of pieces.due ∙ due-again state.due is.sample)
 
 pub state-again : (version : ℕ) (set : Parts) (state : BoardState) → IsState state → state_in (save_text version set state) ≡ state

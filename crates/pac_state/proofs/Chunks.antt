@@ -1,5 +1,5 @@
 -- A list that is cut into pieces of one length.
-use Rattle.std.proofs.Common.{◌≡◌, ℕ, zero, suc, ◌*◌, ◌+◌, ◌<◌, List, [], length, get_or, take, drop, refl, ap, ◌∙◌, arith}
+use Rattle.std.proofs.Common.{◌≡◌, ℕ, zero, suc, ◌*◌, ◌+◌, ◌<◌, List, [], length, get_or, take, drop, refl, ap, arith, rules}
 use Rattle.std.proofs.lemmas.List.{drop-drop}
 use Rattle.std.specs.Simd.{first_chunks}
 use Rattle.pac_num.specs.Tabulate.{tabulate}
@@ -12,13 +12,10 @@ long width (suc count) xs = ap suc (long width count (drop width xs))
 at-chunk : {X : Type 0} (width count : ℕ) (xs : List X) (y : ℕ) → y < count
     → get_or (first_chunks width count xs) y [] ≡ take width (drop (width * y) xs)
 at-chunk width zero xs y below = absurd (omega (arith, below))
-at-chunk width (suc count) xs zero below =
-    let none : 0 ≡ width * 0 = omega arith in
-    ap (λ at. take width (drop at xs)) none
+at-chunk width (suc count) xs zero below = search rules
 at-chunk width (suc count) xs (suc y) below =
     let more : width + width * y ≡ width * suc y = omega arith in
-    at-chunk width count (drop width xs) y (omega (arith, below))
-    ∙ ap (take width) (drop-drop (width * y) width xs ∙ ap (λ at. drop at xs) more)
+    cc (at-chunk width count (drop width xs) y (omega (arith, below)), drop-drop (width * y) width xs, more)
 
 pub chunks-are : {X : Type 0} (width count : ℕ) (xs : List X)
     → first_chunks width count xs ≡ tabulate count (λ y. take width (drop (width * y) xs))

@@ -1,8 +1,6 @@
 -- The text of a state is taken, and what is taken is the text of a state.
-use Rattle.std.proofs.Common.{◌≡◌, ◌≢◌, ◌==◌, ℕ, ◌<◌, ◌^◌, ⊎_elim, min, Bool, true, false, not, ◌&&◌, nat_le, if◌then◌else◌}
-use Rattle.std.proofs.Common.{List, ◌++◌, length, get_or, take, drop, Option, Some, None, Result, Ok, Err, bytes_eq}
-use Rattle.std.proofs.Common.{refl, sym, ap, subst, ◌∙◌, arith}
-use Rattle.std.proofs.Math.Facts.{sfits_to_z}
+use Rattle.std.proofs.Common.{◌≡◌, ◌≢◌, ℕ, ◌<◌, ◌^◌, ⊎_elim, min, Bool, true, false, not, ◌&&◌, nat_le, if◌then◌else◌, rules, List, ◌++◌}
+use Rattle.std.proofs.Common.{length, get_or, take, drop, Option, Some, None, Result, Ok, Err, bytes_eq, refl, sym, ap, subst, ◌∙◌, arith}
 use Rattle.std.proofs.Math.Seq.{take-append_seam, drop-append_seam}
 use Rattle.std.proofs.lemmas.List.{length-append}
 use Rattle.std.proofs.lemmas.Nat.{from_le_bytes-to_le_bytes_2}
@@ -18,8 +16,7 @@ use Rattle.pac_state.specs.declared.fault.LoadFault.TheVariants.{NoState, OtherV
 use Rattle.pac_state.specs.Text.{magic, body, save_text}
 use Rattle.pac_state.specs.Reading.{bytes_at_place, saved_word_at, due_sample, processor_in, state_in}
 use Rattle.pac_state.specs.Saved.{file_size, begins_with_magic, version_in, is_known, is_of_another_version, is_sealed, is_of_set}
-use Rattle.pac_state.specs.Saved.{load_fault}
-use Rattle.pac_state.specs.Saved.{IsStateInRange, AreWritten, IsText, upgraded_board, Misses}
+use Rattle.pac_state.specs.Saved.{load_fault, IsStateInRange, AreWritten, IsText, upgraded_board, Misses}
 use Rattle.pac_state.specs.SavedLaws.{ReadsFile}
 use Rattle.pac_state.specs.Files.{FitsSample, IsState, IsFile, board_of_file}
 use Rattle.pac_state.specs.FilesLaws.{AcceptsFile}
@@ -39,10 +36,7 @@ unfolding load_fault
 none-found digest bytes first second third fourth fifth = rw (first, second, third, fourth, fifth) refl
 
 pub text-size : (version : ℕ) (set : Parts) (state : BoardState) → IsState state → length (save_text version set state) ≡ file_size
-text-size version set state is =
-    let long = length-body version (digest_of set) state (length-sha1 _) is.memory is.range.picture in
-    let seal = length-sha1 (body version (digest_of set) state) in
-    length-append (body version (digest_of set) state) (sha1 (body version (digest_of set) state)) ∙ omega (arith, long, seal)
+text-size version set state is = grind (arith, length-append, length-body, length-sha1)
 
 text-version : (version : ℕ) (set : Parts) (state : BoardState) → is_known version ≡ true → IsState state
     → version_in (save_text version set state) ≡ version
@@ -59,11 +53,7 @@ text-begins version set state is =
 
 text-no-other : (version : ℕ) (set : Parts) (state : BoardState) → is_known version ≡ true → IsState state
     → is_of_another_version (save_text version set state) ≡ false
-text-no-other version set state known is =
-    let same : is_known (version_in (save_text version set state)) ≡ true =
-    ap is_known (text-version version set state known is) ∙ known in
-    let long = text-size version set state is in
-    rw (same, long) refl
+text-no-other version set state known is = grind (arith, text-size, text-version)
 
 text-sealed : (version : ℕ) (set : Parts) (state : BoardState) → IsState state → is_sealed (save_text version set state) ≡ true
 text-sealed version set state is =
@@ -83,18 +73,10 @@ text-of-set version set state is =
 
 text-sound : (version : ℕ) (set : Parts) (state : BoardState) → is_known version ≡ true → IsState state
     → load_fault (digest_of set) (save_text version set state) ≡ None
-text-sound version set state known is =
-    none-found (digest_of set) (save_text version set state) (text-begins version set state is) (text-no-other version set state known is)
-    (text-size version set state is) (text-sealed version set state is) (text-of-set version set state is)
+text-sound version set state known is = grind (arith, none-found, text-begins, text-no-other, text-of-set, text-sealed, text-size)
 
 text-written : (version : ℕ) (set : Parts) (state : BoardState) → IsState state → AreWritten state (save_text version set state)
-text-written version set state is =
-    let pieces = has-pieces version (digest_of set) state (length-sha1 _) is.memory in
-    record {
-      processor = sym pieces.processor;
-      controls = sym pieces.controls;
-      due = sym pieces.due;
-    }
+text-written version set state is = let pieces = has-pieces version (digest_of set) state (length-sha1 _) is.memory in search rules
 
 text-is-text : (version : ℕ) (set : Parts) (state : BoardState) → IsState state → IsText (save_text version set state)
 text-is-text version set state is =
@@ -110,13 +92,10 @@ word-below : (at : ℕ) (bytes : List ℕ) → AreBytes bytes → saved_word_at 
 unfolding AreBytes
 word-below at bytes fits =
     let parts = part-bytes at 2 bytes fits in
-    let first = parts 0 in
-    let second = parts 1 in
-    omega (arith, first, second)
+    omega arith
 
 fits-sample : (is_due : Bool) (word : ℕ) → word < 2 ^ 16 → FitsSample (due_sample is_due word)
-fits-sample true word within = sfits_to_z {w = w16} {n = word} (record { fits = within })
-fits-sample false word within = tt
+fits-sample is_due word within = search rules
 
 pub sizes : (bytes : List ℕ) → length bytes ≡ file_size → IsStateInRange (state_in bytes) → IsWellFormed (state_in bytes).now.board.memory
 sizes bytes size range = record {
@@ -165,46 +144,32 @@ pub text-board : (set : Parts) (bytes : List ℕ) (file : IsFile set bytes)
 text-board set bytes file =
     let version : version_in bytes ≡ file.version =
     ap version_in file.text ∙ text-version file.version set file.state file.known file.is_state in
-    let state : state_in bytes ≡ file.state = ap state_in file.text ∙ state-again file.version set file.state file.is_state in
-    ap (λ version. upgraded_board version (record { set = set; state = state_in bytes; made = 0 })) version
-    ∙ ap (λ (state : BoardState). upgraded_board file.version (record { set = set; state = state; made = 0 })) state
+    let state : state_in bytes ≡ file.state = ap state_in file.text ∙ state-again file.version set file.state file.is_state in search rules
 
 no-memory : (set : Parts) (bytes : List ℕ) (fault : LoadFault) → IsText bytes → Misses bytes fault → fault ≡ NoMemory
 no-memory set bytes OutOfRange text misses = absurd (misses text)
 no-memory set bytes NoMemory text misses = refl
-no-memory set bytes NoState text misses = absurd misses
-no-memory set bytes OtherVersion text misses = absurd misses
-no-memory set bytes Size text misses = absurd misses
-no-memory set bytes Damaged text misses = absurd misses
-no-memory set bytes OtherSet text misses = absurd misses
+no-memory set bytes fault text misses = absurd misses
 
 never-memory : (marked version size seal set : Bool) → (if marked then Some NoState else if version then Some OtherVersion
     else if size then Some Size else if seal then Some Damaged else if set then Some OtherSet else None) ≢ Some NoMemory
-never-memory true version size seal set = λ (told : _ ≡ _). cc
-never-memory false true size seal set = λ (told : _ ≡ _). cc
-never-memory false false true seal set = λ (told : _ ≡ _). cc
-never-memory false false false true set = λ (told : _ ≡ _). cc
-never-memory false false false false true = λ (told : _ ≡ _). cc
-never-memory false false false false false = λ (told : _ ≡ _). cc
+never-memory marked version size seal set = search rules
 
 -- what is wrong with a file is no want of memory
 pub fault-of-file : (digest bytes : List ℕ) (fault : LoadFault) → load_fault digest bytes ≡ Some fault → fault ≢ NoMemory
 unfolding load_fault
-fault-of-file digest bytes fault told = λ (memory : fault ≡ NoMemory).
-    never-memory (not (begins_with_magic bytes)) (is_of_another_version bytes) (not (length bytes == file_size)) (not (is_sealed bytes))
-    (not (is_of_set digest bytes)) (told ∙ ap (λ (f : LoadFault). Some f) memory)
+fault-of-file digest bytes fault told = grind (arith, never-memory)
 
 pub accepts : (set : Parts) (bytes : List ℕ) → ((i : ℕ) → get_or bytes i 0 < 256) → (result : Result BoardValue LoadFault)
     → ReadsFile set bytes result → AcceptsFile set bytes result
 unfolding AreBytes
 accepts set bytes fits (Ok board) answers =
-    let size = size-of (digest_of set) bytes answers.sound in
     record {
       file = record {
         version = version_in bytes;
         known = known-of (digest_of set) bytes answers.sound;
         state = state_in bytes;
-        is_state = is-state bytes fits size answers.text.in_range;
+        is_state = is-state bytes fits (size-of (digest_of set) bytes answers.sound) answers.text.in_range;
         text = sym (text-of set bytes fits answers.sound answers.text.written);
       };
       board = λ file. answers.board ∙ text-board set bytes file;

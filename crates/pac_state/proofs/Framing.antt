@@ -36,9 +36,7 @@ block-pieces state formed =
 block-end : (state : BoardState) → IsWellFormed state.now.board.memory → IsPicture state.now.board.lines
     → bytes_at_place 67736 20 (block_text state) ≡ no_digest
 unfolding block_text
-block-end state formed picture =
-    part-at 67736 20 (body written_version no_digest state) no_digest [] (length-body written_version no_digest state refl formed
-    picture) refl
+block-end state formed picture = part-at 67736 20 (body written_version no_digest state) no_digest [] (grind (arith, length-body)) refl
 
 block-picture : (state : BoardState) → IsWellFormed state.now.board.memory → IsPicture state.now.board.lines
     → bytes_at_place 3224 64512 (block_text state) ≡ joined_pieces state.now.board.lines
@@ -92,9 +90,7 @@ block-of bytes fits size framed text =
     ap (λ version. body version no_digest (state_in bytes)) (sym framed.version) ∙ before in
     record {
       in_range = text.in_range;
-      text = sym (ap (λ (text : List ℕ). text ++ no_digest) same
-          ∙ (ap (λ (last : List ℕ). bytes_at_place 0 67736 bytes ++ last) framed.digests.end
-          ∙ (part-add 0 67736 20 bytes ∙ take_all 67756 bytes (omega (arith, size)))));
+      text = cc (same, framed.digests.end, part-add 0 67736 20 bytes, take_all 67756 bytes (omega (arith, size)));
     }
 
 pub reads-block : (bytes : List ℕ) → ((i : ℕ) → get_or bytes i 0 < 256) → length bytes ≡ file_size → IsFramed bytes
@@ -114,7 +110,6 @@ pub next-fits : {X : Type 0} (f : X → List ℕ) (pieces : List X) (k : ℕ) (d
     → end ≡ at + length (flat_map f (take k pieces)) → at + length (flat_map f pieces) ≤ size
     → end + length (f (get_or pieces k default)) ≤ size
 next-fits f pieces k default at end size inside here room =
-    let split = ap length (flat_map-split f pieces k default inside) in
     let outer = length-append (flat_map f (take k pieces) ++ f (get_or pieces k default)) (flat_map f (drop (k + 1) pieces)) in
     let inner = length-append (flat_map f (take k pieces)) (f (get_or pieces k default)) in
-    omega (arith, split, outer, inner, here, room)
+    omega (arith, ap length (flat_map-split f pieces k default inside), outer, inner, here, room)

@@ -1,8 +1,8 @@
 -- A block with another front: of a block, and of zeros, the picture of which is black.
-use Rattle.std.proofs.Common.{◌≡◌, ℕ, zero, suc, ◌+◌, ◌-◌, ◌*◌, ◌≤◌, List, [], ◌∷◌, ◌++◌, length, take, drop, replicate}
+use Rattle.std.proofs.Common.{◌≡◌, ℕ, zero, suc, ◌+◌, ◌-◌, ◌*◌, ◌≤◌, List, [], ◌∷◌, ◌++◌, length, take, drop, replicate, rules}
 use Rattle.std.proofs.Common.{refl, sym, ap, subst, ◌∙◌, arith, append_assoc, append-nil}
 use Rattle.std.proofs.Math.Seq.{drop-append_seam}
-use Rattle.std.proofs.lemmas.Grind.{flat_map-append}
+use Rattle.std.proofs.lemmas.Grind.{flat_map-append, common_steps}
 use Rattle.std.proofs.lemmas.List.{length-append, drop-replicate, take-replicate, replicate-append-replicate}
 use Rattle.pac_num.proofs.Tabulated.{tabulate-same}
 use Rattle.pac_num.specs.Tabulate.{tabulate}
@@ -11,7 +11,6 @@ use Rattle.pac_board.specs.PictureState.{black}
 use Rattle.pac_board.specs.State.{BoardState}
 use Rattle.pac_out.specs.Pieces.{joined_pieces}
 use Rattle.pac_state.specs.Block.{no_digest, block_text, IsBlock}
-use Rattle.sha1.specs.Sha1.{sha1}
 use Rattle.pac_state.specs.Files.{IsState}
 use Rattle.pac_state.specs.Fronts.{IsFrontOf}
 use Rattle.pac_state.specs.Reading.{bytes_at_place, lines_of, picture_in, state_in}
@@ -26,10 +25,7 @@ use Rattle.pac_state.proofs.Written.{length-front, length-body, length-sha1}
 with-front : (front rest : List ℕ) (state : BoardState) → IsFrontOf state front
     → rest ≡ joined_pieces state.now.board.lines ++ no_digest → front ++ rest ≡ block_text state
 unfolding block_text
-with-front front rest state is after =
-    ap (λ (front : List ℕ). front ++ rest) is.text
-    ∙ ap (λ (rest : List ℕ). file_front written_version no_digest state ++ rest) after
-    ∙ sym (append_assoc (file_front written_version no_digest state) (joined_pieces state.now.board.lines) no_digest)
+with-front front rest state is after = grind (arith, common_steps)
 
 -- what follows the front in the block of a state
 after-front : (state : BoardState) → IsWellFormed state.now.board.memory
@@ -45,17 +41,13 @@ after-front state formed =
 pub front-changed : (old front : List ℕ) (state : BoardState) → length old ≡ file_size → IsBlock old → IsFrontOf state front
     → state.now.board.lines ≡ (state_in old).now.board.lines → front ++ drop 3224 old ≡ block_text state
 front-changed old front state size block is same =
-    with-front front (drop 3224 old) state is (ap (drop 3224) block.text
-    ∙ after-front (state_in old) (sizes old size block.in_range)
-    ∙ ap (λ (lines : List (List ℕ)). joined_pieces lines ++ no_digest) (sym same))
+    with-front front (drop 3224 old) state is (cc (block.text, after-front (state_in old) (sizes old size block.in_range), same))
 
 -- ---- zeros
 
 joined-zeros : (count width : ℕ) → joined_pieces (tabulate count (λ _. replicate width 0)) ≡ replicate (count * width) 0
 unfolding tabulate
-joined-zeros zero width =
-    let none : 0 ≡ 0 * width = omega arith in
-    ap (λ (n : ℕ). replicate n 0) none
+joined-zeros zero width = search rules
 joined-zeros (suc count) width =
     let more : count * width + width ≡ suc count * width = omega arith in
     flat_map-append (λ (piece : List ℕ). piece) (tabulate count (λ _. replicate width 0)) (replicate width 0 ∷ [])
@@ -78,8 +70,7 @@ pub front-of-zeros : (front : List ℕ) (state : BoardState) → IsFrontOf state
     → front ++ drop 3224 (replicate file_size 0) ≡ block_text state
 unfolding black
 front-of-zeros front state is same =
-    with-front front (drop 3224 (replicate file_size 0)) state is (rest-of-zeros 3224 224 288 file_size (omega arith)
-    ∙ ap (λ (lines : List (List ℕ)). joined_pieces lines ++ no_digest) (sym same))
+    with-front front (drop 3224 (replicate file_size 0)) state is (cc (rest-of-zeros 3224 224 288 file_size (omega arith), same))
 
 -- the part of zeros that a line has
 line-of-zeros : (at size all : ℕ) → at + size ≤ all → bytes_at_place at size (replicate all 0) ≡ replicate size 0
@@ -98,7 +89,4 @@ lines-of-zeros =
 
 pub file-size : (digest : List ℕ) (state : BoardState) → length digest ≡ 20 → IsState state
     → length (sealed_file (body written_version digest state)) ≡ file_size
-file-size digest state size is =
-    let long = length-body written_version digest state size is.memory is.range.picture in
-    let seal = length-sha1 (body written_version digest state) in
-    length-append (body written_version digest state) (sha1 (body written_version digest state)) ∙ omega (arith, long, seal)
+file-size digest state size is = grind (arith, length-append, length-body, length-sha1)

@@ -1,5 +1,5 @@
 -- A state's text put into a new file.
-use Rattle.std.proofs.Common.{◌≡◌, ℕ, List, [], Result, Ok, Err, sym, ◌∙◌, subst}
+use Rattle.std.proofs.Common.{◌≡◌, ℕ, List, [], Result, Ok, Err, rules}
 use Rattle.std.specs.Borrow.{MutBor}
 use Rattle.pac_out.specs.declared.counted.Counted.{Counted}
 use Rattle.pac_out.specs.declared.WriteFault.{WriteFault}
@@ -14,22 +14,5 @@ pub saves : {W A : Type 0} (took : W → List ℕ → W → Type 0) (refused : W
     → Puts (lent_took took) (lent_refused refused) file text result new
     → (writer : MutBor W) → writer ≡ new.writer → (owner.ghost_name ≡ writer.ghost_name → left ≡ writer.now)
     → Saves took refused owner.now text result left
-saves took refused {owner} fresh text (Ok done) new left puts writer same handed =
-    let ends = subst (λ (it : MutBor _). owner.ghost_name ≡ it.ghost_name → left ≡ it.now) same handed in
-    let written = (puts.takes.after owner [] fresh).written in
-    subst (λ last. took owner.now text last) (sym (ends (sym written.0))) written.1
-saves took refused {owner} fresh text (Err fault) new left puts writer same handed =
-    let ends = subst (λ (it : MutBor _). owner.ghost_name ≡ it.ghost_name → left ≡ it.now) same handed in
-    let stop = puts.after owner [] fresh in
-    let within = stop.stopped in
-    let last : left ≡ new.writer.now = ends (sym within.before.0 ∙ sym within.refusal.0) in
-    record {
-      taken = stop.taken;
-      stopped = record {
-        some_left = within.some_left;
-        asked = within.asked.now;
-        before = within.before.1;
-        refusal = subst (λ last. refused within.asked.now last) (sym last) within.refusal.1;
-      };
-      told_is = puts.told ∙ stop.count_is;
-    }
+saves took refused {owner} fresh text (Ok done) new left puts writer same handed = search rules
+saves took refused {owner} fresh text (Err fault) new left puts writer same handed = search rules

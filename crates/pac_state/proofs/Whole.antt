@@ -1,7 +1,6 @@
 -- A file whose fields stand as they are written is the text of its state.
-use Rattle.std.proofs.Common.{◌≡◌, ℕ, zero, suc, ◌+◌, ◌-◌, ◌*◌, ◌<◌, ◌≤◌, ◌==◌, min}
-use Rattle.std.proofs.Common.{not, List, [], ◌∷◌, ◌++◌, length, get_or, take, drop}
-use Rattle.std.proofs.Common.{None, refl, sym, ap, subst, ◌∙◌, arith, append-nil}
+use Rattle.std.proofs.Common.{◌≡◌, ℕ, zero, suc, ◌+◌, ◌*◌, ◌<◌, ◌≤◌, ◌==◌, min, not, List, [], ◌∷◌, ◌++◌, length, get_or, take, drop, None}
+use Rattle.std.proofs.Common.{refl, sym, ap, subst, ◌∙◌, arith, append-nil}
 use Rattle.std.proofs.Math.Seq.{take-add}
 use Rattle.std.proofs.lemmas.List.{drop-drop, length-take-le, length-drop, take_all, get_or-drop, take-append-drop}
 use Rattle.std.proofs.lemmas.Grind.{flat_map-append}
@@ -14,8 +13,7 @@ use Rattle.pac_board.specs.RomParts.{Parts}
 use Rattle.pac_roms_manifest.specs.Sets.{digest_of}
 use Rattle.pac_state.specs.declared.fault.LoadFault.TheVariants.{NoState, OtherVersion, Size, Damaged, OtherSet}
 use Rattle.pac_out.specs.Pieces.{joined_pieces}
-use Rattle.pac_state.specs.Text.{magic, saved_word, saved_double_word, saved_long_word, head, ram, devices, file_front}
-use Rattle.pac_state.specs.Text.{body, save_text}
+use Rattle.pac_state.specs.Text.{magic, saved_word, saved_double_word, saved_long_word, head, ram, devices, file_front, body, save_text}
 use Rattle.pac_state.specs.Reading.{bytes_at_place, lines_of, picture_in, state_in}
 use Rattle.pac_state.specs.Saved.{begins_with_magic, is_of_another_version, is_sealed, is_of_set, load_fault, file_size, body_size}
 use Rattle.pac_state.specs.Saved.{version_in, AreWritten}
@@ -25,9 +23,7 @@ use Rattle.pac_state.proofs.Taken.{below, tested, size-of}
 
 pub part-add : (at one other : ℕ) (bytes : List ℕ) →
     bytes_at_place at one bytes ++ bytes_at_place (at + one) other bytes ≡ bytes_at_place at (one + other) bytes
-part-add at one other bytes =
-    ap (λ (rest : List ℕ). bytes_at_place at one bytes ++ take other rest) (sym (drop-drop one at bytes))
-    ∙ sym (take-add one other (drop at bytes))
+part-add at one other bytes = grind (arith, drop-drop, take-add)
 
 -- pieces of these widths from a place on
 unfoldable pub cut : ℕ → List ℕ → List ℕ → List (List ℕ)
@@ -41,15 +37,10 @@ total (width ∷ more) = width + total more
 joined-cut : (at : ℕ) (widths bytes : List ℕ) → joined_pieces (cut at widths bytes) ≡ bytes_at_place at (total widths) bytes
 unfolding cut total
 joined-cut at [] bytes = refl
-joined-cut at (width ∷ more) bytes =
-    ap (λ (rest : List ℕ). bytes_at_place at width bytes ++ rest) (joined-cut (at + width) more bytes)
-    ∙ part-add at width (total more) bytes
+joined-cut at (width ∷ more) bytes = cc (joined-cut (at + width) more bytes, part-add at width (total more) bytes)
 
 pub length-part : (at width : ℕ) (bytes : List ℕ) → at + width ≤ length bytes → length (bytes_at_place at width bytes) ≡ width
-length-part at width bytes inside =
-    let rest : length (drop at bytes) ≡ length bytes - at = length-drop at bytes in
-    let within : width ≤ length (drop at bytes) = omega (arith, rest, inside) in
-    length-take-le width (drop at bytes) within
+length-part at width bytes inside = grind (arith, length-drop, length-take-le)
 
 -- each part of bytes is of bytes
 unfoldable pub AreBytes : List ℕ → Type 0
@@ -57,14 +48,9 @@ AreBytes bytes = (i : ℕ) → get_or bytes i 0 < 256
 
 take-bytes : (width : ℕ) (bytes : List ℕ) → AreBytes bytes → AreBytes (take width bytes)
 unfolding AreBytes
-take-bytes zero [] fits zero = omega arith
-take-bytes zero [] fits (suc i) = omega arith
-take-bytes zero (x ∷ xs) fits zero = omega arith
-take-bytes zero (x ∷ xs) fits (suc i) = omega arith
-take-bytes (suc width) [] fits zero = omega arith
-take-bytes (suc width) [] fits (suc i) = omega arith
 take-bytes (suc width) (x ∷ xs) fits zero = fits 0
 take-bytes (suc width) (x ∷ xs) fits (suc i) = take-bytes width xs (λ j. fits (suc j)) i
+take-bytes width bytes fits i = omega arith
 
 drop-bytes : (at : ℕ) (bytes : List ℕ) → AreBytes bytes → AreBytes (drop at bytes)
 unfolding AreBytes
@@ -131,9 +117,7 @@ lines-joined (suc count) picture =
     (bytes_at_place (288 * count) 288 picture ∷ [])
     ∙ (ap (λ (last : List ℕ). joined_pieces (tabulate count (λ y. bytes_at_place (288 * y) 288 picture)) ++ last)
     (append-nil (bytes_at_place (288 * count) 288 picture))
-    ∙ (ap (λ (before : List ℕ). before ++ bytes_at_place (288 * count) 288 picture) (lines-joined count picture)
-    ∙ (ap (λ at. bytes_at_place 0 (288 * count) picture ++ bytes_at_place at 288 picture) (sym here)
-    ∙ (part-add 0 (288 * count) 288 picture ∙ ap (λ width. bytes_at_place 0 width picture) next))))
+    ∙ (cc (lines-joined count picture, here, part-add 0 (288 * count) 288 picture, next)))
 
 lines-are : (bytes : List ℕ) → length bytes ≡ file_size → joined_pieces (lines_of (picture_in bytes)) ≡ bytes_at_place 3224 64512 bytes
 lines-are bytes size =
@@ -149,12 +133,8 @@ body-is of_set bytes fits size start digest written =
     let first = head-is of_set bytes fits size start digest written in
     let third = devices-is bytes fits size written in
     let before : file_front (version_in bytes) of_set (state_in bytes) ≡ bytes_at_place 0 3224 bytes =
-    ap (λ (text : List ℕ). (text ++ joined_pieces (ram (state_in bytes))) ++ joined_pieces (devices (state_in bytes))) first
-    ∙ (ap (λ (text : List ℕ). (bytes_at_place 0 82 bytes ++ text) ++ joined_pieces (devices (state_in bytes))) (ram-is bytes)
-    ∙ (ap (λ (text : List ℕ). (bytes_at_place 0 82 bytes ++ bytes_at_place 82 3072 bytes) ++ text) third
-    ∙ (ap (λ (text : List ℕ). text ++ bytes_at_place 3154 70 bytes) (part-add 0 82 3072 bytes) ∙ part-add 0 3154 70 bytes))) in
-    ap (λ (text : List ℕ). text ++ joined_pieces (lines_of (picture_in bytes))) before
-    ∙ (ap (λ (text : List ℕ). bytes_at_place 0 3224 bytes ++ text) (lines-are bytes size) ∙ part-add 0 3224 64512 bytes)
+    cc (first, ram-is bytes, third, part-add 0 82 3072 bytes, part-add 0 3154 70 bytes) in
+    cc (before, lines-are bytes size, part-add 0 3224 64512 bytes)
 
 pub text-of : (set : Parts) (bytes : List ℕ) → ((i : ℕ) → get_or bytes i 0 < 256) → load_fault (digest_of set) bytes ≡ None
     → AreWritten (state_in bytes) bytes → save_text (version_in bytes) set (state_in bytes) ≡ bytes
@@ -173,6 +153,4 @@ text-of set bytes fits none written =
     let seal : sha1 (take body_size bytes) ≡ drop body_size bytes =
     (bytes_eq-Decides (sha1 (take body_size bytes)) (drop body_size bytes)).0 closed in
     let before : body (version_in bytes) (digest_of set) (state_in bytes) ≡ take body_size bytes =
-    body-is (digest_of set) bytes fits size (sym start) digest written in
-    ap (λ (text : List ℕ). text ++ sha1 text) before
-    ∙ (ap (λ (last : List ℕ). take body_size bytes ++ last) seal ∙ take-append-drop body_size bytes)
+    body-is (digest_of set) bytes fits size (sym start) digest written in cc (before, seal, take-append-drop body_size bytes)

@@ -3,7 +3,7 @@ use Rattle.std.proofs.Common.{◌≡◌, ℕ, zero, suc, ◌+◌, ◌*◌, ◌<�
 use Rattle.std.proofs.Common.{refl, sym, ap, subst, ◌∙◌, arith, append_assoc}
 use Rattle.std.proofs.Math.Seq.{take-append_seam, drop-append_seam}
 use Rattle.std.proofs.lemmas.List.{length-append, take_all}
-use Rattle.std.proofs.lemmas.Grind.{flat_map-append}
+use Rattle.std.proofs.lemmas.Grind.{flat_map-append, common_steps}
 use Rattle.sha1.specs.Sha1.{sha1, digest_bytes}
 use Rattle.pac_board.proofs.Tabulated.{tabulate-is}
 use Rattle.pac_lemmas.proofs.Pieces.{flat_map-one-more, flat_map-split}
@@ -24,9 +24,7 @@ part-here before piece after =
 
 pub part-at : (at width : ℕ) (before piece after : List ℕ) → length before ≡ at → length piece ≡ width
     → bytes_at_place at width (before ++ (piece ++ after)) ≡ piece
-part-at at width before piece after here wide =
-    subst (λ at. bytes_at_place at width (before ++ (piece ++ after)) ≡ piece) here
-    (subst (λ width. bytes_at_place (length before) width (before ++ (piece ++ after)) ≡ piece) wide (part-here before piece after))
+part-at at width before piece after here wide = grind (arith, part-here)
 
 abbrev widths : List (List ℕ) → List ℕ
 widths [] = []
@@ -45,8 +43,7 @@ cut-joined before (piece ∷ more) after =
     let first : bytes_at_place (length before) (length piece) (before ++ ((piece ++ joined_pieces more) ++ after)) ≡ piece =
     ap (bytes_at_place (length before) (length piece)) one ∙ part-here before piece (joined_pieces more ++ after) in
     let rest : cut (length before + length piece) (widths more) (before ++ ((piece ++ joined_pieces more) ++ after)) ≡ more =
-    ap (λ at. cut at (widths more) (before ++ ((piece ++ joined_pieces more) ++ after))) at
-    ∙ (ap (cut (length (before ++ piece)) (widths more)) (one ∙ other) ∙ cut-joined (before ++ piece) more after) in
+    cc (at, one, other, cut-joined (before ++ piece) more after) in
     rw (first, rest) refl
 
 length-joined : (parts : List (List ℕ)) → length (joined_pieces parts) ≡ total (widths parts)
@@ -65,10 +62,7 @@ places = 8 ∷ 2 ∷ 20 ∷ 28 ∷ 8 ∷ 8 ∷ 8 ∷ 1024 ∷ 1024 ∷ 1024 ∷ 
 
 joined-pieces : (version : ℕ) (digest : List ℕ) (state : BoardState) →
     joined_pieces (pieces version digest state) ≡ file_front version digest state
-joined-pieces version digest state =
-    flat_map-append (λ (piece : List ℕ). piece) (head version digest state ++ ram state) (devices state)
-    ∙ ap (λ (text : List ℕ). text ++ joined_pieces (devices state))
-    (flat_map-append (λ (piece : List ℕ). piece) (head version digest state) (ram state))
+joined-pieces version digest state = grind (arith, flat_map-append)
 
 widths-are : (version : ℕ) (digest : List ℕ) (state : BoardState) → length digest ≡ 20 → IsWellFormed state.now.board.memory
     → widths (pieces version digest state) ≡ places
@@ -136,8 +130,7 @@ pub length-front : (version : ℕ) (digest : List ℕ) (state : BoardState) → 
     → length (file_front version digest state) ≡ 3224
 unfolding total
 length-front version digest state long sizes =
-    ap length (sym (joined-pieces version digest state)) ∙ (length-joined (pieces version digest state)
-    ∙ ap total (widths-are version digest state long sizes))
+    ap length (sym (joined-pieces version digest state)) ∙ (grind (arith, length-joined, total, widths-are))
 
 -- these pieces, one after another, are all that comes before the picture
 pub front-is : (digest : List ℕ) (state : BoardState) {version cpu time steps asked first second third controls due : List ℕ}
@@ -150,8 +143,7 @@ pub front-is : (digest : List ℕ) (state : BoardState) {version cpu time steps 
     ∷ state.now.board.memory.work ∷ state.now.board.memory.coordinates ∷ state.now.board.memory.registers ∷ first ∷ second ∷ third
     ∷ controls ∷ due ∷ []) ≡ file_front written_version digest state
 unfolding head ram devices
-front-is digest state version cpu time steps asked first second third controls due =
-    rw (version, cpu, time, steps, asked, first, second, third, controls, due) (joined-pieces written_version digest state)
+front-is digest state version cpu time steps asked first second third controls due = grind (arith, joined-pieces)
 
 -- ---- the lines of the picture
 
@@ -159,15 +151,12 @@ lines-before : (lines : List (List ℕ)) → IsPicture lines → (count : ℕ) �
     length (joined_pieces (take count lines)) ≡ 288 * count
 lines-before lines picture zero within = refl
 lines-before lines picture (suc count) within =
-    let high : length lines ≡ 224 = picture.high in
-    let inside : count < length lines = omega (arith, high, within) in
+    let inside : count < length lines = omega (arith, within) in
     let wide : length (get_or lines count []) ≡ 288 = picture.wide count (omega (arith, within)) in
     let before = lines-before lines picture count (omega (arith, within)) in
     let more : joined_pieces (take count lines) ++ get_or lines count [] ≡ joined_pieces (take (count + 1) lines) =
     flat_map-one-more (λ (piece : List ℕ). piece) lines count [] inside in
-    let next : count + 1 ≡ suc count = omega arith in
-    ap (λ count. length (joined_pieces (take count lines))) (sym next) ∙ (ap length (sym more)
-    ∙ (length-append (joined_pieces (take count lines)) (get_or lines count []) ∙ omega (arith, wide, before)))
+    let next : count + 1 ≡ suc count = omega arith in grind (arith, length-append)
 
 pub length-lines : (lines : List (List ℕ)) → IsPicture lines → length (joined_pieces lines) ≡ 64512
 length-lines lines picture =
@@ -177,12 +166,10 @@ length-lines lines picture =
 line-at : (lines : List (List ℕ)) → IsPicture lines → (y : ℕ) → y < 224 →
     bytes_at_place (288 * y) 288 (joined_pieces lines) ≡ get_or lines y []
 line-at lines picture y inside =
-    let high : length lines ≡ 224 = picture.high in
     let before = lines-before lines picture y (omega (arith, inside)) in
     let split : (joined_pieces (take y lines) ++ get_or lines y []) ++ joined_pieces (drop (y + 1) lines) ≡ joined_pieces lines =
-    flat_map-split (λ (piece : List ℕ). piece) lines y [] (omega (arith, high, inside)) in
-    ap (bytes_at_place (288 * y) 288) (sym split
-    ∙ append_assoc (joined_pieces (take y lines)) (get_or lines y []) (joined_pieces (drop (y + 1) lines)))
+    flat_map-split (λ (piece : List ℕ). piece) lines y [] (omega (arith, inside)) in
+    ap (bytes_at_place (288 * y) 288) (grind (arith, common_steps))
     ∙ part-at (288 * y) 288 (joined_pieces (take y lines)) (get_or lines y []) (joined_pieces (drop (y + 1) lines)) before
     (picture.wide y inside)
 
@@ -219,7 +206,4 @@ has-picture version digest state long sizes picture =
 
 pub length-body : (version : ℕ) (digest : List ℕ) (state : BoardState) → length digest ≡ 20 → IsWellFormed state.now.board.memory
     → IsPicture state.now.board.lines → length (body version digest state) ≡ 67736
-length-body version digest state long sizes picture =
-    let first = length-front version digest state long sizes in
-    let second = length-lines state.now.board.lines picture in
-    length-append (file_front version digest state) (joined_pieces state.now.board.lines) ∙ omega (arith, first, second)
+length-body version digest state long sizes picture = grind (arith, length-append, length-front, length-lines)

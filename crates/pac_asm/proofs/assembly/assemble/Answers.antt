@@ -1,35 +1,22 @@
-use Rattle.std.proofs.Common.{◌≡◌, ℕ, List, [], Some, Ok, sym, ◌∙◌, ap, subst}
-use Rattle.std.specs.List.{flat_map}
+use Rattle.std.proofs.Common.{◌≡◌, List, [], Some, Ok, sym, subst, arith, rules}
 use Rattle.std.specs.Str.Lines.{lines}
-use Rattle.pac_code.specs.Items.{AllLie}
 use Rattle.pac_asm_program.specs.Names.{Symbol, number_of_symbol}
-use Rattle.pac_asm_program.specs.Programs.{Assembled, items_in, items_of}
-use Rattle.pac_asm_program.specs.Rom.{rom_of}
+use Rattle.pac_asm_program.specs.Programs.{Assembled, items_of}
 use Rattle.pac_asm_program.specs.RomLaws.{AreApart}
 use Rattle.pac_asm_program.specs.RomProofs.{IsZeroElsewhere}
-use Rattle.pac_asm_program.specs.declared.line.Line.{Line}
-use Rattle.pac_asm.specs.declared.place.LineLayout.{LineLayout}
 use Rattle.pac_asm.specs.Assignments.{first_spot, OneIsRight}
 use Rattle.pac_asm.specs.Entries.{entries_in, HasEntriesOf}
 use Rattle.pac_asm.specs.Phase2.{phase2}
-use Rattle.pac_asm.specs.Items.{AllFit}
 use Rattle.pac_asm.proofs.Assigned.{symbols-are-right}
 use Rattle.pac_asm.proofs.Entered.{has-entries}
 use Rattle.pac_asm.proofs.Sizes.{all-fit}
 use Rattle.pac_asm.proofs.assembly.assemble.Goals as goal
 
 pub fill_in-requires-clause-fit : goal.fill_in-requires-clause-fit
-fill_in-requires-clause-fit c =
-    subst (AllFit (lines c.args.source.now)) (sym (c.places.ensures.value ∙ c.parts-symbols.ensures.places))
-    (all-fit (lines c.args.source.now) c.in_ok-lay_out.field-0 c.in_ok-lay_out.ensures)
+fill_in-requires-clause-fit c = grind (arith, all-fit)
 
 pub returns-clause-lie : goal.returns-clause-lie
-returns-clause-lie c =
-    let items = flat_map items_in c.in_ok-lines.lines.items in
-    let made = c.in_ok-rom.ensures.value ∙ ap (λ (filled : List Line). rom_of (flat_map items_in filled)) c.deref.ensures.value in
-    subst (λ (program : Assembled). AllLie program.rom (items_of program)) (sym c.new.ensures)
-    (subst (λ (rom : List ℕ). AllLie rom items) (sym made)
-    (c.apart_items_lie.ensures items c.in_ok-lines.ensures.items.0 c.in_ok-lines.ensures.items.1))
+returns-clause-lie c = search rules
 
 pub returns-clause-apart : goal.returns-clause-apart
 returns-clause-apart c =
@@ -37,10 +24,8 @@ returns-clause-apart c =
 
 pub returns-clause-zero : goal.returns-clause-zero
 returns-clause-zero c =
-    let items = flat_map items_in c.in_ok-lines.lines.items in
     subst (λ (program : Assembled). IsZeroElsewhere program.rom (items_of program)) (sym c.new.ensures)
-    (subst (λ (filled : List Line). IsZeroElsewhere c.in_ok-rom.rom.value (flat_map items_in filled)) c.deref.ensures.value
-    c.in_ok-rom.ensures.zero)
+    (search rules)
 
 pub returns-clause-right : goal.returns-clause-right
 returns-clause-right c =
@@ -53,11 +38,7 @@ returns-clause-entries c =
     let texts = lines c.args.source.now in
     let after = c.in_ok-lay_out.field-0 in
     let filled = c.in_ok-lines.lines.items in
-    let second : phase2 after.symbols 1 [] texts after.places ≡ Ok filled =
-    subst (λ (places : List LineLayout). phase2 after.symbols 1 [] texts places ≡ Ok filled)
-    (c.places.ensures.value ∙ c.parts-symbols.ensures.places)
-    (subst (λ (symbols : List Symbol). phase2 symbols 1 [] texts c.places.result.now ≡ Ok filled) c.parts-symbols.ensures.symbols
-    c.in_ok-lines.ensures.exact) in
+    let second : phase2 after.symbols 1 [] texts after.places ≡ Ok filled = search rules in
     subst (λ (program : Assembled). HasEntriesOf texts program) (sym c.new.ensures)
     (subst (λ (symbols : List Symbol). entries_in (number_of_symbol symbols) first_spot texts ≡ Some filled)
     (sym c.parts-symbols.ensures.symbols)

@@ -1,22 +1,17 @@
-use Rattle.std.proofs.Common.{[], sym, subst, inl, inr}
+use Rattle.std.proofs.Common.{[], sym, subst, inl, arith, rules}
 use Rattle.std.specs.Str.Lines.{lines}
 use Rattle.pac_asm.specs.Errors.{AssemblyFails}
 use Rattle.pac_asm.specs.Phase2 as spec
 use Rattle.pac_asm.specs.declared.fault.AsmError.{AsmError}
-use Rattle.pac_asm.proofs.Filling.{begins, fits, onward, ends, finished}
+use Rattle.pac_asm.proofs.Filling.{onward, ends, finished}
 use Rattle.pac_asm.proofs.phase2.fill_in.Goals as goal
 use Rattle.pac_asm.proofs.phase2.fill_in.Goals.{in-Some+in_default-first_place, in_default}
 
 pub loop-line-init : goal.loop-line-init
-loop-line-init c =
-    begins c.args.source.now c.args.symbols.now c.args.places.now c.in_ok-filled.filled.items
-    c.in_ok-filled.ensures.items c.requires.apart c.requires.fit
+loop-line-init c = search rules
 
 pub line_at-requires : goal.line_at-requires
-line_at-requires c =
-    fits c.args.source.now c.loop-line.rest.now c.in-Some.line.now c.in-Some.below.now c.args.symbols.now c.args.places.now
-    c.loop-line.left.now c.in-Some-first_place.others.now c.in-Some-first_place.place c.loop-line.number c.loop-line.filled.items
-    c.in-Some.ensures.some c.in-Some-first_place.ensures c.loop-line.invariant
+line_at-requires c = search rules
 
 pub returns-in-Err-clause-exact : goal.returns-in-Err-clause-exact
 returns-in-Err-clause-exact c =
@@ -28,18 +23,12 @@ returns-in-Err-clause-exact c =
     c.in-Err.error c.in-Err.ensures.exact)
 
 pub loop-line-preserved : goal.loop-line-preserved
-loop-line-preserved c =
-    onward c.args.source.now c.loop-line.rest.now c.in-Some.line.now c.in-Some.below.now c.args.symbols.now c.args.places.now
-    c.loop-line.left.now c.in-Some-first_place.others.now c.in-Some-first_place.place c.loop-line.number c.loop-line.filled.items
-    c.in-Some.ensures.some c.in-Some-first_place.ensures c.loop-line.invariant
-    c.in-Ok.here c.push.new.self.items c.in-Ok.ensures.exact c.in-Ok.ensures.placed c.in_ok-push-in-Ok.ensures.items
+loop-line-preserved c = grind (arith, onward)
 
 pub returns-clause-exact : goal.returns-clause-exact
 returns-clause-exact c =
     elim c.match-first_line.branch [
-      | in-Some+in_default-first_place w ↦
-          finished c.args.source.now c.loop-line.rest.now c.args.symbols.now c.args.places.now c.loop-line.left.now c.loop-line.number
-          c.loop-line.filled.items (inr w.in_default-first_place.ensures) c.loop-line.invariant
+      | in-Some+in_default-first_place w ↦ grind (arith, finished)
       | in_default w ↦
           finished c.args.source.now c.loop-line.rest.now c.args.symbols.now c.args.places.now c.loop-line.left.now c.loop-line.number
           c.loop-line.filled.items (inl w.in_default.ensures.none) c.loop-line.invariant

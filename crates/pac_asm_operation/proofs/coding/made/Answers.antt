@@ -1,6 +1,6 @@
 use mir.Val.{to_z, of_z}
 use mir.Syntax.{w8}
-use Rattle.std.proofs.Common.{◌≡◌, ℤ, sym, ◌∙◌, ap, subst, arith}
+use Rattle.std.proofs.Common.{◌≡◌, sym, subst, arith, rules}
 use Rattle.std.specs.Prelude.{IfSome}
 use Rattle.std.proofs.lemmas.Int.{ints, to_z-of_z}
 use Rattle.pac_table.specs.Instructions.{Instruction, IsInstruction, row_at}
@@ -17,9 +17,7 @@ returns c =
     let made : Instruction = with_row_number n (as_instruction parts) in
     let given : Instruction =
     record { row = c.from.result; p = parts.p; q = parts.q; word = parts.word; disp = to_z w8 (of_z w8 parts.disp) } in
-    let same : given ≡ made =
-    ap (λ r. with_row_number r (record (as_instruction parts) { disp = to_z w8 (of_z w8 parts.disp) })) c.from.ensures ∙
-    ap (λ (d : ℤ). with_row_number n (record (as_instruction parts) { disp = d })) disp in
+    let same : given ≡ made = search rules in
     picked c.new.result (holds (row_at n).pattern (as_instruction parts)) made
     (λ some. instruction-held n (as_instruction parts) (subst (λ (i : Instruction). IsInstruction i) same (c.new.ensures.valid.0 some)))
     (λ is. c.new.ensures.valid.1 (subst (λ (i : Instruction). IsInstruction i) (sym same)

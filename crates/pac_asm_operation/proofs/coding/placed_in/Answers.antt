@@ -1,13 +1,13 @@
-use Rattle.std.proofs.Common.{◌≡◌, ℕ, pos, Bool, ◌==◌, if◌then◌else◌, List, Some, None, sym, ◌∙◌, ap}
+use Rattle.std.proofs.Common.{◌≡◌, ℕ, pos, Bool, ◌==◌, if◌then◌else◌, List, Some, None, sym, ◌∙◌, ap, arith, rules}
 use Rattle.std.proofs.lemmas.Bool.{eq-eqb}
 use Rattle.pac_table.specs.declared.operands.Shape.{Shape}
 use Rattle.pac_table.specs.declared.table.Row.{Row}
 use Rattle.pac_table.specs.Instructions.{Instruction, row_at}
 use Rattle.pac_table_names.specs.Names.{written_operands}
 use Rattle.pac_table_names.specs.ByName.{family_in}
-use Rattle.pac_asm_operation.specs.Operations.{row_size, are_forms, fits_as, all_take, with_all_operands, holds, parts_as}
+use Rattle.pac_asm_operation.specs.Operations.{row_size, fits_as, all_take, holds, parts_as}
 use Rattle.pac_asm_operation.specs.Views.{operand_pair}
-use Rattle.pac_asm_operation.specs.Kept.{as_instruction, with_row_number, parts_in_row}
+use Rattle.pac_asm_operation.specs.Kept.{as_instruction, with_row_number}
 use Rattle.pac_asm_operation.proofs.FilledParts.{all_taken}
 use Rattle.pac_asm_operation.proofs.Held.{suited, unsuited}
 use Rattle.pac_asm_operation.proofs.coding.placed_in.Goals as goal
@@ -21,35 +21,13 @@ family_of family row = family_in row.operands.mnemonic family
 
 form-read : (shapes : List Shape) (row other : Row) (value family : ℕ) → shapes ≡ written_operands row.operands value →
     value ≡ family_of family row → row ≡ other → shapes ≡ written_operands other.operands (family_of family other)
-form-read shapes row other value family are is same =
-    are ∙ ap (written_operands row.operands) is ∙ ap (λ (some : Row). written_operands some.operands (family_of family some)) same
+form-read shapes row other value family are is same = search rules
 
 pub filled-requires : goal.filled-requires
-filled-requires c =
-    let operands = operand_pair c.args.first.now c.args.second.now in
-    let same = c.row_numbered.ensures ∙ ap row_at c.from.ensures in
-    ap (λ (shapes : List Shape). are_forms shapes operands)
-    (form-read _ c.row_numbered.result.now (row_at c.args.row) c.family_in-value.result c.args.family c.written.ensures
-    c.family_in-value.ensures same) ∙
-    sym c.fits.ensures ∙ c.if-not-fits.false
+filled-requires c = search rules
 
 pub returns-in_err-parts : goal.returns-in_err-parts
-returns-in_err-parts c =
-    let operands = operand_pair c.args.first.now c.args.second.now in
-    let row = row_at c.args.row in
-    let value = family_of c.args.family row in
-    let same = c.row_numbered.ensures ∙ ap row_at c.from.ensures in
-    let shapes =
-    form-read _ c.row_numbered.result.now row c.family_in-value.result c.args.family c.written.ensures c.family_in-value.ensures same in
-    let value_is = c.family_in-value.ensures ∙ ap (family_of c.args.family) same in
-    c.from_residual.ensures ∙
-    unsuited (row_size row == c.args.size) (fits_as value operands row)
-    (all_take (written_operands row.operands value) c.args.next operands)
-    (holds row.pattern (parts_as value c.args.next operands row)) (parts_in_row c.args.family c.args.next operands c.args.row)
-    (with_all_operands (written_operands row.operands value) c.args.next operands (start value))
-    (c.in_err-parts.ensures ∙
-    ap (λ (xs : List Shape). all_taken xs c.args.next operands (start c.family_in-value.result)) shapes ∙
-    ap (λ v. all_taken (written_operands row.operands value) c.args.next operands (start v)) value_is)
+returns-in_err-parts c = grind (arith, all_taken, form-read, unsuited)
 
 pub returns : goal.returns
 returns c =
@@ -66,9 +44,7 @@ returns c =
     (holds row.pattern made) (as_instruction c.in_ok-parts.parts) made
     (eq-eqb (row_size row) c.args.size (sym c.row_size.ensures ∙ c.if-row_size-size.false))
     (sym c.fits.ensures ∙ c.if-not-fits.false)
-    (c.in_ok-parts.ensures ∙
-    ap (λ (xs : List Shape). all_taken xs c.args.next operands (start c.family_in-value.result)) shapes ∙
-    ap (λ v. all_taken (written_operands row.operands value) c.args.next operands (start v)) value_is) in
+    (grind (arith, all_taken)) in
     c.made.ensures ∙
     ap (λ (i : Instruction). if holds row.pattern i then Some (with_row_number c.args.row i) else None) suits.same ∙
     sym (ap (λ (b : Bool). if b then Some (with_row_number c.args.row made) else None) suits.test)

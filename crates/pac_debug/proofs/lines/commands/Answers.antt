@@ -1,4 +1,4 @@
-use Rattle.std.proofs.Common.{Ok, Err, ap}
+use Rattle.std.proofs.Common.{Ok, ap, arith}
 use Rattle.std.proofs.lemmas.Result.{err_from_is_err_and}
 use Rattle.std.specs.Str.Lines.{lines}
 use Rattle.pac_board.specs.SinksLaws.{by}
@@ -31,9 +31,7 @@ returns-in_err-command-clause-given g c =
     leads-to-fault (by g.S.Sink.took g.S.Sink.refused) g.W.Out.took g.W.Out.refused whole (lines c.loop-line.rest.now)
     (lines c.in-Some.after.now) c.in-Some.line.now old now next fault c.in-Some.ensures.some c.loop-line.invariant
     c.in_err-command.ensures in
-    let told = err_from_is_err_and c.from_residual.result c.from_residual.ensures.1 in
-    rw (told.1, told.2)
-    (lines-given (by g.S.Sink.took g.S.Sink.refused) g.W.Out.took g.W.Out.refused whole (Err fault) old next obeyed)
+    let told = err_from_is_err_and c.from_residual.result c.from_residual.ensures.1 in grind (arith, lines-given)
 
 pub returns-clause-given : goal.returns-clause-given
 returns-clause-given g c =

@@ -1,4 +1,5 @@
-use Rattle.std.proofs.Common.{◌≡◌, ℕ, ◌+◌, refl, ap, ◌∙◌}
+use Rattle.std.proofs.Common.{rules, arith, ◌≡◌, ℕ, ◌+◌, refl, ap, ◌∙◌}
+use Rattle.std.proofs.lemmas.Grind.{common_steps}
 use Rattle.pac_board.specs.MemoryContents.{read_of}
 use Rattle.pac_num.specs.Numbers.{wrapped_address}
 use Rattle.pac_debug_text.specs.Peeks.{bytes_from}
@@ -11,11 +12,9 @@ returns c =
     let s = c.args.session.now in
     let board = c.board-board.result.now in
     let seen : (at : ℕ) → read_of board.set.program board.state.now.board.memory at ≡ session_byte_at s at
-    = λ at. ap (λ set. read_of set.program board.state.now.board.memory at) c.board-board.ensures.set
-    ∙ ap (λ now. read_of s.setting.set.program now.board.memory at) c.board-board.ensures.now in
+    = grind (arith, common_steps) in
     let second = c.offset-second.ensures in
-    let third : c.offset-third.result ≡ wrapped_address (wrapped_address (c.args.at + 1) + 1) = c.offset-third.ensures
-    ∙ ap (λ a. wrapped_address (a + 1)) second in
+    let third : c.offset-third.result ≡ wrapped_address (wrapped_address (c.args.at + 1) + 1) = search rules in
     let fourth : c.offset-fourth.result ≡ wrapped_address (wrapped_address (wrapped_address (c.args.at + 1) + 1) + 1) =
     c.offset-fourth.ensures ∙ ap (λ a. wrapped_address (a + 1)) third in
     let one = c.peek.ensures ∙ seen c.args.at in

@@ -1,4 +1,5 @@
 -- The lines, and then the run's end.
+use Rattle.std.proofs.Common.{arith}
 use Rattle.std.proofs.lemmas.Result.{err_from_is_err_and}
 use Rattle.std.specs.Str.Lines.{lines}
 use Rattle.pac_board.specs.SinksLaws.{by}
@@ -16,9 +17,7 @@ returns-in_err-commands g c =
     rw (told.1, told.2)
     (record {
       left = mid.session;
-      watched =
-          ended-early (by g.S.Sink.took g.S.Sink.refused) g.W.Out.took g.W.Out.refused (lines c.args.bytes.now) old mid
-          c.in_err-commands.field-0.0 c.in_err-commands.ensures.obeys c.in_err-commands.ensures.given;
+      watched = grind (arith, ended-early);
     })
 
 pub returns-in-Ok : goal.returns-in-Ok

@@ -9,10 +9,4 @@ put_operands-requires-clause-room c =
     (omega (arith, simp length-append at (ap length c.put_operation.ensures), ap length c.new-text.ensures))
 
 pub returns-clause-shown : goal.returns-clause-shown
-returns-clause-shown c =
-    omega (
-      arith,
-      operation-named c.args.instr.now c.requires,
-      simp length-append at (ap length c.put_operation.ensures),
-      simp length-append at (ap length c.put_operands.ensures),
-    )
+returns-clause-shown c = grind (arith, length-append, operation-named)

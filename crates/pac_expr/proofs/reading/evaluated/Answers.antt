@@ -1,4 +1,4 @@
-use Rattle.std.proofs.Common.{◌≡◌, [], sym, ◌∙◌}
+use Rattle.std.proofs.Common.{sym, ◌∙◌, arith}
 use Rattle.pac_expr.specs.TreesProofs.{token_marks}
 use Rattle.pac_expr.specs.Parsing.{tree_in}
 use Rattle.pac_expr.proofs.Parts.{whole-value, more-none, refused-none, none-left, some-left}
@@ -13,14 +13,8 @@ returns-in_err-value g c =
 
 pub returns-then-is_empty : goal.returns-then-is_empty
 unfolding tree_in
-returns-then-is_empty g c =
-    let none : token_marks c.in_ok-value.rest.now ≡ [] = none-left c.in_ok-value.rest.now (sym c.is_empty.ensures ∙ c.if-is_empty.true) in
-    sym (whole-value (g.S.SymbolLookup.lookup c.args.symbols.now) c.args.here (token_marks c.args.tokens.now) c.in_ok-value.value
-    (rw none at c.in_ok-value.ensures.value))
+returns-then-is_empty g c = grind (arith, none-left, whole-value)
 
 pub returns-else-is_empty : goal.returns-else-is_empty
 unfolding tree_in
-returns-else-is_empty g c =
-    sym (more-none (g.S.SymbolLookup.lookup c.args.symbols.now) c.args.here (token_marks c.args.tokens.now) c.in_ok-value.value
-    (token_marks c.in_ok-value.rest.now) c.in_ok-value.ensures.value c.in_ok-value.ensures.ends
-    (some-left c.in_ok-value.rest.now (sym c.is_empty.ensures ∙ c.if-is_empty.false)))
+returns-else-is_empty g c = grind (arith, more-none, some-left)

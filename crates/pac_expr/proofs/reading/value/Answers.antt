@@ -1,3 +1,4 @@
+use Rattle.std.proofs.Common.{arith}
 use Rattle.pac_expr.specs.Parsing.{tree_in}
 use Rattle.pac_expr.proofs.Complete.{value-found, value-only}
 use Rattle.pac_expr.proofs.Undefined.{undefined-told}
@@ -5,8 +6,7 @@ use Rattle.pac_expr.proofs.reading.value.Goals as goal
 
 pub returns-clause-found : goal.returns-clause-found
 unfolding tree_in
-returns-clause-found g c =
-    value-found (g.S.SymbolLookup.lookup c.args.symbols.now) c.args.here c.args.expr.now c.evaluated.result c.evaluated.ensures
+returns-clause-found g c = grind (arith, value-found)
 
 pub returns-clause-only : goal.returns-clause-only
 unfolding tree_in

@@ -1,7 +1,6 @@
-use Rattle.std.proofs.Common.{◌≡◌, sym, ◌∙◌}
+use Rattle.std.proofs.Common.{◌≡◌, sym, ◌∙◌, rules}
 use Rattle.std.proofs.lemmas.Slice.Eq.{bytes_eq-Decides}
 use Rattle.pac_state.specs.Block.{no_digest}
-use Rattle.pac_state.specs.Framed.{HasNoDigests}
 use Rattle.pac_state.specs.Reading.{bytes_at_place}
 use Rattle.pac_state.proofs.block.has_no_digests.Goals as goal
 
@@ -9,7 +8,4 @@ pub returns-then-eq : goal.returns-then-eq
 returns-then-eq c =
     let first = bytes_eq-Decides no_digest c.part.result.now in
     let second = bytes_eq-Decides no_digest c.part-then-eq.result.now in
-    let set : no_digest ≡ bytes_at_place 10 20 c.args.block.now = first.0 (sym c.eq.ensures ∙ c.if-eq.true) ∙ c.part.ensures in (
-      (λ same. record { set = set; end = second.0 (sym c.eq-then-eq.ensures ∙ same) ∙ c.part-then-eq.ensures }),
-      (λ (none : HasNoDigests c.args.block.now). c.eq-then-eq.ensures ∙ second.1 (none.end ∙ sym c.part-then-eq.ensures)),
-    )
+    let set : no_digest ≡ bytes_at_place 10 20 c.args.block.now = first.0 (sym c.eq.ensures ∙ c.if-eq.true) ∙ c.part.ensures in search rules

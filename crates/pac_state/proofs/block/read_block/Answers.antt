@@ -1,12 +1,10 @@
-use Rattle.std.proofs.Common.{◌≡◌, true, false, sym, ◌∙◌}
+use Rattle.std.proofs.Common.{◌≡◌, true, false, sym, ◌∙◌, arith}
 use Rattle.pac_state.specs.Block.{IsBlock}
 use Rattle.pac_state.proofs.Framing.{framed-of, reads-block}
 use Rattle.pac_state.proofs.block.read_block.Goals as goal
 
 pub returns-then-is_framed : goal.returns-then-is_framed
-returns-then-is_framed c =
-    reads-block c.args.block.now c.fits-block c.told-block (c.is_framed.ensures.0 c.if-is_framed.true) c.fields_in.result
-    c.fields_in.ensures
+returns-then-is_framed c = grind (arith, reads-block)
 
 pub returns-else-is_framed : goal.returns-else-is_framed
 returns-else-is_framed c = λ (block : IsBlock c.args.block.now).

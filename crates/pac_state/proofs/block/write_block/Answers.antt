@@ -1,4 +1,4 @@
-use Rattle.std.proofs.Common.{◌≡◌, ◌++◌, List, ℕ, length, take, refl, sym, ap, ◌∙◌, arith}
+use Rattle.std.proofs.Common.{◌≡◌, ◌++◌, List, ℕ, length, take, refl, ap, ◌∙◌, arith, rules}
 use Rattle.std.proofs.lemmas.List.{take_all}
 use Rattle.pac_out.specs.Pieces.{joined_pieces}
 use Rattle.pac_board.specs.Fields.{state_of}
@@ -8,27 +8,10 @@ use Rattle.pac_state.proofs.Written.{length-front, length-lines}
 use Rattle.pac_state.proofs.block.write_block.Goals as goal
 
 pub put_lines-end-requires : goal.put_lines-end-requires
-put_lines-end-requires c =
-    let front = ap length c.front.ensures
-    ∙ length-front written_version no_digest (state_of c.args.fields.now) refl c.in_range.ensures.memory in
-    let lines = length-lines c.args.fields.now.lines.now c.in_range.ensures.range.picture in
-    omega (arith, front, lines, c.put_at-picture.ensures.end, c.put_at-picture.ensures.size, c.told-block)
+put_lines-end-requires c = grind (arith, length-front, length-lines)
 
 pub put_at-requires : goal.put_at-requires
-put_at-requires c =
-    let front = ap length c.front.ensures
-    ∙ length-front written_version no_digest (state_of c.args.fields.now) refl c.in_range.ensures.memory in
-    let lines = length-lines c.args.fields.now.lines.now c.in_range.ensures.range.picture in
-    omega (
-      arith,
-      front,
-      lines,
-      c.put_at-picture.ensures.end,
-      c.put_at-picture.ensures.size,
-      c.put_lines-end.ensures.end,
-      c.put_lines-end.ensures.size,
-      c.told-block,
-    )
+put_at-requires c = grind (arith, length-front, length-lines)
 
 pub returns : goal.returns
 unfolding block_text
@@ -37,19 +20,6 @@ returns c =
     let lines = joined_pieces c.args.fields.now.lines.now in
     let text : take c.put_at.result c.put_at.new.bytes ≡ body written_version no_digest state ++ no_digest =
     c.put_at.ensures.text
-    ∙ ap (λ (text : List ℕ). text ++ no_digest) (c.put_lines-end.ensures.text
-    ∙ ap (λ (text : List ℕ). text ++ lines) (c.put_at-picture.ensures.text ∙ c.front.ensures)) in
+    ∙ ap (λ (text : List ℕ). text ++ no_digest) (search rules) in
     let front = ap length c.front.ensures ∙ length-front written_version no_digest state refl c.in_range.ensures.memory in
-    let rows = length-lines c.args.fields.now.lines.now c.in_range.ensures.range.picture in
-    sym (take_all c.put_at.result c.put_at.new.bytes (omega (
-      arith,
-      front,
-      rows,
-      c.put_at-picture.ensures.end,
-      c.put_at-picture.ensures.size,
-      c.put_lines-end.ensures.end,
-      c.put_lines-end.ensures.size,
-      c.put_at.ensures.end,
-      c.put_at.ensures.size,
-      c.told-block,
-    ))) ∙ text
+    let rows = length-lines c.args.fields.now.lines.now c.in_range.ensures.range.picture in grind (arith, take_all)

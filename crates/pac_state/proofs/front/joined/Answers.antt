@@ -1,11 +1,9 @@
-use Rattle.std.proofs.Common.{◌≡◌, [], length, arith}
-use Rattle.std.specs.List.{flat_map}
+use Rattle.std.proofs.Common.{[], length, arith}
 use Rattle.pac_state.proofs.Framing.{next-fits}
 use Rattle.pac_state.proofs.front.joined.Goals as goal
 
 pub put_at-end-requires : goal.put_at-end-requires
 put_at-end-requires g c =
-    let total : length (flat_map (λ piece. piece.now) c.args.pieces.now) ≡ g.row.N = c.requires in
     next-fits (λ piece. piece.now) c.args.pieces.now c.loop-piece.piece-index (record { ref_ptr = (0, 0); now = [] }) 0
     c.loop-piece.end (length c.loop-piece.bytes) c.loop-piece-test.true
-    (omega (arith, c.loop-piece.invariant.end)) (omega (arith, total, c.loop-piece.invariant.size))
+    (omega (arith, c.loop-piece.invariant.end)) (omega (arith, c.loop-piece.invariant.size))

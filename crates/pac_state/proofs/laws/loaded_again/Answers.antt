@@ -1,9 +1,10 @@
-use Rattle.std.proofs.Common.{◌≡◌, List, ℕ, refl, sym, ap, ◌∙◌, Result, Ok, Err}
+use Rattle.std.proofs.Common.{arith, ◌≡◌, List, ℕ, refl, ◌∙◌, Result, Ok, Err}
+use Rattle.std.proofs.lemmas.Grind.{common_steps}
 use Rattle.pac_board.specs.RomParts.{Parts}
 use Rattle.pac_board.specs.Boxed.{unboxed}
 use Rattle.pac_board.specs.State.{BoardValue}
 use Rattle.pac_state.specs.declared.fault.LoadRefused.{LoadRefused}
-use Rattle.pac_state.specs.Text.{sealed_file, body, written_version}
+use Rattle.pac_state.specs.Text.{written_version}
 use Rattle.pac_state.specs.SavedProofs.{LoadsBoard}
 use Rattle.pac_state.specs.Files.{IsFile}
 use Rattle.pac_state.specs.FilesProofs.{Accepts}
@@ -24,7 +25,6 @@ returns c =
       known = refl;
       state = board.state;
       is_state = c.boards_have_states.ensures;
-      text = c.requires.saved
-          ∙ ap (λ (digest : List ℕ). sealed_file (body written_version digest board.state)) (sym c.requires.set);
+      text = grind (arith, common_steps);
     } in
     loads c.args.set c.args.bytes.now board file refl refl (unboxed c.load.result) c.load.ensures.answer c.load.ensures.files

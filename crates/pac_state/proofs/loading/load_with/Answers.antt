@@ -1,5 +1,5 @@
 -- The board of a file, made in a block of memory.
-use Rattle.std.proofs.Common.{Ok, Err, inr, refl, sym, ap, ◌∙◌}
+use Rattle.std.proofs.Common.{Ok, Err, inr, refl, sym, ap, ◌∙◌, rules}
 use Rattle.std.proofs.lemmas.Result.{err_from_is_err_and}
 use Rattle.pac_board.specs.Fields.{state_of}
 use Rattle.pac_board.specs.State.{BoardState}
@@ -11,20 +11,14 @@ use Rattle.pac_state.proofs.Taken.{size-of}
 use Rattle.pac_state.proofs.loading.load_with.Goals as goal
 
 pub returns-in_err-fields-clause-answer : goal.returns-in_err-fields-clause-answer
-returns-in_err-fields-clause-answer c =
-    let found = c.in_err-fields.ensures c.args.set.now (sym c.digest.ensures) in
-    let p = err_from_is_err_and c.from_residual.result c.from_residual.ensures.1 in
-    rw (p.1, p.2) (record { same_set = refl; fault = found.refuses })
+returns-in_err-fields-clause-answer c = search rules
 
 pub returns-in_err-fields-clause-files : goal.returns-in_err-fields-clause-files
 returns-in_err-fields-clause-files c =
     let found = c.in_err-fields.ensures c.args.set.now (sym c.digest.ensures) in
     let p = err_from_is_err_and c.from_residual.result c.from_residual.ensures.1 in
     rw (p.1, p.2) (λ file.
-    absurd (accepts c.args.set.now c.args.bytes.now (λ i. (c.type_inv.bytes i).fits) (Err c.in_err-fields.field-0.0) (record {
-      refuses = found.refuses;
-      of_file = found.of_file;
-    }) file))
+    absurd (accepts c.args.set.now c.args.bytes.now (λ i. (c.type_inv.bytes i).fits) (Err c.in_err-fields.field-0.0) (search rules) file))
 
 pub file_version-requires : goal.file_version-requires
 file_version-requires c =
@@ -32,9 +26,7 @@ file_version-requires c =
     size-of (digest_of c.args.set.now) c.args.bytes.now found.sound
 
 pub put_fields-requires : goal.put_fields-requires
-put_fields-requires c =
-    let found = c.in_ok-fields.ensures c.args.set.now (sym c.digest.ensures) in
-    found.in_range
+put_fields-requires c = (c.in_ok-fields.ensures c.args.set.now (sym c.digest.ensures)).in_range
 
 pub returns-in-Ok-clause-answer : goal.returns-in-Ok-clause-answer
 returns-in-Ok-clause-answer c =
@@ -55,11 +47,7 @@ returns-in-Ok-clause-answer c =
 pub returns-in-Ok-clause-files : goal.returns-in-Ok-clause-files
 returns-in-Ok-clause-files c =
     let answer = returns-in-Ok-clause-answer c in
-    let read = accepts c.args.set.now c.args.bytes.now (λ i. (c.type_inv.bytes i).fits) (Ok c.bring_up.new.board) (record {
-      sound = answer.sound;
-      text = answer.text;
-      board = answer.board;
-    }) in
+    let read = accepts c.args.set.now c.args.bytes.now (λ i. (c.type_inv.bytes i).fits) (Ok c.bring_up.new.board) (search rules) in
     record { file = read.file; board = read.board }
 
 pub returns-in-Err-clause-answer : goal.returns-in-Err-clause-answer

@@ -22,12 +22,11 @@ returns-in_err-put g c =
 
 pub returns-in_err-put_lines : goal.returns-in_err-put_lines
 returns-in_err-put_lines g c =
-    let second = joined_pieces c.args.fields.now.lines.now in
     let digest = sha1 (body written_version c.args.digest.now (state_of c.args.fields.now)) in
     let p = err_from_is_err_and c.from_residual-in_err-put_lines.result c.from_residual-in_err-put_lines.ensures.1 in
     rw (p.1, p.2)
     (subst (λ (text : List ℕ). Refuses g.W.Out.took g.W.Out.refused c.args.file.now text c.in_err-put_lines.field-0.0 c.put_lines.new.file)
-    (ap (λ (text : List ℕ). (text ++ second) ++ digest) c.front.ensures)
+    (ap (λ (text : List ℕ). (text ++ (joined_pieces c.args.fields.now.lines.now)) ++ digest) c.front.ensures)
     (refuses-within (refuses-after c.in_ok-put.ensures.put.takes c.in_err-put_lines.ensures.put) digest))
 
 pub returns : goal.returns

@@ -1,7 +1,7 @@
-use Rattle.std.proofs.Common.{◌≡◌, List, ℕ, subst, ap, ◌∙◌}
+use Rattle.std.proofs.Common.{arith, ◌≡◌, ap, ◌∙◌}
+use Rattle.std.proofs.lemmas.Grind.{common_steps}
 use Rattle.pac_board.specs.Fields.{state_of}
 use Rattle.pac_roms_manifest.specs.Sets.{digest_of}
-use Rattle.pac_state.specs.Saves.{Saves}
 use Rattle.pac_state.specs.Text.{sealed_file, body, written_version, save_text}
 use Rattle.pac_state.proofs.saving.save.Goals as goal
 
@@ -11,5 +11,4 @@ returns g c =
     ≡ save_text written_version c.args.board.now.set c.args.board.now.state =
     ap (λ digest. sealed_file (body written_version digest (state_of c.fields.result))) (c.digest.ensures ∙ ap digest_of c.set.ensures)
     ∙ ap (λ state. sealed_file (body written_version (digest_of c.args.board.now.set) state)) c.fields.ensures.fields in
-    subst (λ (text : List ℕ). Saves g.W.Out.took g.W.Out.refused c.args.out.now text c.save_fields.result c.save_fields.new.out) text
-    c.save_fields.ensures
+    grind (arith, common_steps)
