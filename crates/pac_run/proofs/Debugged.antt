@@ -20,7 +20,7 @@ use Rattle.pac_run.specs.DebugsProofs.{IsReady}
 use Rattle.pac_run.specs.Debugs.{Debugs, IsBrokenAt, IsUntold, setting_of_plan}
 use Rattle.pac_run.specs.Plan.{Plan, plan_with}
 use Rattle.pac_run.specs.Playing.{Played, session_played, told_played}
-use Rattle.pac_run.specs.Recorded.{TextBreaks, UnreportedPlay, WaveBreaks, WholePlay, WritesPlay}
+use Rattle.pac_run.specs.Recorded.{TextBreaks, WaveBreaks, WritesPlay}
 use Rattle.pac_run.specs.Started.{IsPrepared, Prepares}
 use Rattle.pac_run.specs.Run.{Writing, Writings, TakesText, StopsInText, IsUnwritten, NothingWritten, IsRunWhole, contents_of, trace_of}
 use Rattle.pac_run.specs.Texts as text
@@ -72,7 +72,7 @@ module _ {F W L R T : Type 0} (inputs : RunInputs) (commands : List ℕ) (to : W
     played = told_played words setting outputs (IsOutcome session) (lines commands) unplayed
 
     -- what a session's run leaves, by its answer: its run is the plan's trace
-    whole : (outcome : Outcome) → WholePlay played plan.listing to outcome → IsRunWhole (contents_of plan inputs.dip) to outcome
+    whole : (outcome : Outcome) → WritesPlay played plan.listing to (Ok outcome) → IsRunWhole (contents_of plan inputs.dip) to outcome
     whole outcome it =
         let same = session-outcome inputs program session ready outcome it.film.done.outcome_is in
         record {
@@ -83,7 +83,8 @@ module _ {F W L R T : Type 0} (inputs : RunInputs) (commands : List ℕ) (to : W
           report = subst (λ outcome. TakesText to.report (text.report outcome (total_frames plan.script))) same it.report;
         }
 
-    unreported : (count : ℕ) → UnreportedPlay played plan.listing to count → IsBrokenAt plan inputs.dip commands to words which.Report count
+    unreported : (count : ℕ) → WritesPlay played plan.listing to (Err (fault.Write which.Report count))
+        → IsBrokenAt plan inputs.dip commands to words which.Report count
     unreported count it =
         let same = session-outcome inputs program session ready it.outcome it.film.done.outcome_is in (
           record {
@@ -154,8 +155,9 @@ module _ {F W L R T : Type 0} (inputs : RunInputs) (commands : List ℕ) (to : W
         → WritesPlay (session_played words session (lines commands) unplayed) plan.listing to answer
         → Debugs inputs commands to words answer
     debugged answer it =
+        let Writes : Setting → List Output → Type 0 =
+        λ (setting : Setting) (outputs : List Output).
+        WritesPlay (told_played words setting outputs (IsOutcome session) (lines commands) unplayed) plan.listing to answer in
         by-answer answer
-        (subst (λ setting. WritesPlay (told_played words setting outputs (IsOutcome session) (lines commands) unplayed) plan.listing to answer)
-        (sym (same-setting inputs program session ready))
-        (subst (λ outputs. WritesPlay (told_played words session.setting outputs (IsOutcome session) (lines commands) unplayed) plan.listing to
-        answer) (session-outputs inputs program session ready) it))
+        (subst (λ setting. Writes setting outputs) (sym (same-setting inputs program session ready))
+        (subst (λ outputs. Writes session.setting outputs) (session-outputs inputs program session ready) it))

@@ -156,7 +156,8 @@ module _ {F W : Type 0} (at : Reel F W) (total : ℕ) where
   one-more taken (Sound sample) old new has took = sample-more taken sample old new has took
   one-more taken (Show image) old new has took = image-more taken image old new has took
 
-  all-more : (before outputs : List Output) (old new : Film F W) → Filmed before old → TookAll (film_took at.took_f at.took_w) old outputs new
+  all-more : (before outputs : List Output) (old new : Film F W) → Filmed before old
+      → TookAll (film_took at.took_f at.took_w) old outputs new
       → Filmed (before ++ outputs) new
   all-more before [] old new has same =
       subst (λ (outputs : List Output). Filmed outputs new) (sym (append-nil before))
@@ -165,7 +166,8 @@ module _ {F W : Type 0} (at : Reel F W) (total : ℕ) where
       subst (λ (outputs : List Output). Filmed outputs new) (append_assoc before (output ∷ []) more)
       (all-more (before ++ output ∷ []) more took.between new (one-more before output old took.between has took.before) took.after)
 
-  pub filmed : (outputs : List Output) {old new : Film F W} → HasBegun at total old → TookAll (film_took at.took_f at.took_w) old outputs new
+  pub filmed : (outputs : List Output) {old new : Film F W} → HasBegun at total old
+      → TookAll (film_took at.took_f at.took_w) old outputs new
       → Filmed outputs new
   filmed outputs {old} {new} begun took = all-more [] outputs old new (at-first old begun) took
 

@@ -21,7 +21,8 @@ use Rattle.pac_run.proofs.Lent.{Carries, text-stops}
 
 module _ {S T U : Type 0} (to : Giving S) (wrote : T → List ℕ → T → Type 0) (balked : T → T → Type 0) (lines : List (List ℕ))
     (scene last : Scene S T) (fresh : scene.session ≡ session_at_start scene.session.setting 0) (start : T)
-    (new_text : HasTaken wrote start [] scene.text) (words : Writing U) (tells : Carries (writing wrote balked start last.text.writer) words)
+    (new_text : HasTaken wrote start [] scene.text) (words : Writing U)
+    (tells : Carries (writing wrote balked start last.text.writer) words)
     (unplayed : Type 0) where
   -- a session at the beginning of its run has all of it still to give
   all-to-give : outputs_to_give scene.session ≡ (whole_run scene.session.setting).outputs
@@ -100,7 +101,8 @@ module _ {S T U : Type 0} (to : Giving S) (wrote : T → List ℕ → T → Type
   plays (Err (faults.Text fault)) halt = untold fault halt
 
 -- the session may have been played already
-pub of-session : {S U : Type 0} (to : Giving S) (words : Writing U) (lines : List (List ℕ)) (unplayed other : Type 0) (found : Option SessionValue)
+pub of-session : {S U : Type 0} (to : Giving S) (words : Writing U) (lines : List (List ℕ)) (unplayed other : Type 0)
+    (found : Option SessionValue)
     (session : SessionValue) → found ≡ Some session → (old new : S) (answer : Result Outcome CommandFault)
     → PlaysInto to (session_played words session lines unplayed) old answer new
     → PlaysInto to (watched_by words lines other found) old answer new

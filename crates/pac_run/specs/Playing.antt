@@ -168,7 +168,8 @@ watched_by words lines unplayed found = record {
 
 abbrev pub watch_playing : {T : Type 0} → (T → List ℕ → T → Type 0) → (T → T → Type 0) → Playing (Watching T)
 watch_playing {T} took refused =
-    let left = λ (old new : Watching T). watched_by (writing took refused old.text new.text) (lines old.commands.now) (new ≡ old) old.session in
+    let left = λ (old new : Watching T).
+        watched_by (writing took refused old.text new.text) (lines old.commands.now) (new ≡ old) old.session in
     record {
       ready = λ it. OfSession (λ session. session ≡ session_at_start session.setting 0) it.session;
       frames = λ it. (left it it).frames;

@@ -39,8 +39,8 @@ pub record Reel (F W : Type 0) : Type 1 where
   pub frames : F
   pub wave : W
 
-abbrev pub reel : {F W : Type 0} → (F → List ℕ → F → Type 0) → (F → F → Type 0) → (W → List ℕ → W → Type 0) → (W → W → Type 0) → (frames : F)
-    → (wave : W) → Reel F W
+abbrev pub reel : {F W : Type 0} → (F → List ℕ → F → Type 0) → (F → F → Type 0) → (W → List ℕ → W → Type 0) → (W → W → Type 0)
+    → (frames : F) → (wave : W) → Reel F W
 reel took_f refused_f took_w refused_w frames wave = record {
   took_f = took_f;
   refused_f = refused_f;
@@ -71,8 +71,8 @@ pub record SoundBroke {F W : Type 0} (took : W → List ℕ → W → Type 0) (r
   pub wave : SoundFails took refused old.wave bytes told new.wave
   pub fault_is : fault ≡ record { output = which.Wave; count = told.count }
 
-abbrev pub WritesSound : {F W A : Type 0} → (W → List ℕ → W → Type 0) → (W → W → Type 0) → Film F W → List ℕ → Result A OutputFault → Film F W
-    → Type 0
+abbrev pub WritesSound : {F W A : Type 0} → (W → List ℕ → W → Type 0) → (W → W → Type 0) → Film F W → List ℕ
+    → Result A OutputFault → Film F W → Type 0
 WritesSound took refused old bytes (Ok done) new = Delivers took old.wave bytes new.wave
 WritesSound took refused old bytes (Err fault) new = SoundBroke took refused old bytes fault new
 
@@ -126,38 +126,31 @@ PerformsFilm took_f refused_f took_w refused_w play old answer new =
 
 -- ---- listing and report, too
 
--- all was written
-pub record WholePlay {F W L R : Type 0} (play : Played) (listed : List ℕ) (to : Writings F W L R) (outcome : Outcome) : Type 0 where
-  pub listing : TakesText to.listing listed
-  pub film : HasPlayed play to.frames to.wave outcome
-  pub report : TakesText to.report (text.report outcome play.frames)
-
--- the listing was refused; the report; or another
-pub record UnlistedPlay {F W L R : Type 0} (play : Played) (listed : List ℕ) (to : Writings F W L R) (count : ℕ) : Type 0 where
-  pub listing : StopsInText to.listing listed count
-  pub frames : IsUnwritten to.frames
-  pub wave : IsUnwritten to.wave
-  pub report : IsUnwritten to.report
-  pub unplayed : play.unplayed
-
-pub record UnreportedPlay {F W L R : Type 0} (play : Played) (listed : List ℕ) (to : Writings F W L R) (count : ℕ) : Type 0 where
-  pub listing : TakesText to.listing listed
-  pub outcome : Outcome
-  pub film : HasPlayed play to.frames to.wave outcome
-  pub report : StopsInText to.report (text.report outcome play.frames) count
-
-pub record BrokenPlay {F W L R : Type 0} (play : Played) (listed : List ℕ) (to : Writings F W L R) (output : Which) (count : ℕ) : Type
-    0 where
-  pub listing : TakesText to.listing listed
-  pub film : BreaksPlay play to.frames to.wave output count
-  pub report : IsUnwritten to.report
-
-abbrev pub WritesPlay : {F W L R : Type 0} → Played → (listing : List ℕ) → Writings F W L R → Result Outcome RunFault → Type 0
-WritesPlay play listing to (Ok outcome) = WholePlay play listing to outcome
-WritesPlay play listing to (Err (fault.Write which.Listing count)) = UnlistedPlay play listing to count
-WritesPlay play listing to (Err (fault.Write which.Report count)) = UnreportedPlay play listing to count
-WritesPlay play listing to (Err (fault.Write output count)) = BrokenPlay play listing to output count
-WritesPlay play listing to (Err other) = ⊥
+abbrev pub WritesPlay : {F W L R : Type 0} → Played → (listed : List ℕ) → Writings F W L R → Result Outcome RunFault → Type 0
+WritesPlay play listed to (Ok outcome) = record {
+  listing : TakesText to.listing listed;
+  film : HasPlayed play to.frames to.wave outcome;
+  report : TakesText to.report (text.report outcome play.frames);
+}
+WritesPlay play listed to (Err (fault.Write which.Listing count)) = record {
+  listing : StopsInText to.listing listed count;
+  frames : IsUnwritten to.frames;
+  wave : IsUnwritten to.wave;
+  report : IsUnwritten to.report;
+  unplayed : play.unplayed;
+}
+WritesPlay play listed to (Err (fault.Write which.Report count)) = record {
+  listing : TakesText to.listing listed;
+  outcome : Outcome;
+  film : HasPlayed play to.frames to.wave outcome;
+  report : StopsInText to.report (text.report outcome play.frames) count;
+}
+WritesPlay play listed to (Err (fault.Write output count)) = record {
+  listing : TakesText to.listing listed;
+  film : BreaksPlay play to.frames to.wave output count;
+  report : IsUnwritten to.report;
+}
+WritesPlay play listed to (Err other) = ⊥
 
 -- ---- a whole run
 

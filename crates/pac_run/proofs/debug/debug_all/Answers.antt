@@ -24,7 +24,8 @@ returns g c =
     let ready = ready-session c.args.inputs.now c.in_ok-program.field-0 c.in_ok-session.field-0 c.in_ok-program.ensures
     c.in_ok-session.ensures.begun in
     debugs to to (itself to.frames) (itself to.wave) (itself to.listing) (itself to.report) _ _
-    (carries-back g.T.Out.took g.T.Out.refused _ c.write_all-written.new.player.text _ _ c.into_text.ensures (assumption)) c.args.inputs.now c.args.commands.now
+    (carries-back g.T.Out.took g.T.Out.refused _ c.write_all-written.new.player.text _ _ c.into_text.ensures (assumption))
+    c.args.inputs.now c.args.commands.now
     c.write_all-written.result
     (debugged c.args.inputs.now c.args.commands.now to _ c.in_ok-program.field-0.program c.in_ok-session.field-0 ready _
     (λ same. ap (λ (it : Watching _). it.text) same) c.write_all-written.result c.write_all-written.ensures)
