@@ -3,6 +3,7 @@ use Rattle.std.proofs.Common.{◌≡◌, ℕ, List, Option, None, Some, Result, 
 use Rattle.pac_asm.specs.declared.fault.AsmFault.{AsmFault}
 use Rattle.pac_asm.specs.Programs.{program_of}
 use Rattle.pac_board_course.specs.Script.{script_of}
+use Rattle.pac_board_course.specs.Course.{CourseValue}
 use Rattle.pac_board_course.specs.State.{BoardState, BoardValue}
 use Rattle.pac_board_course.specs.Stretch.{Stretch}
 use Rattle.pac_board_course.specs.Stretches.{total_frames}
@@ -21,14 +22,15 @@ use Rattle.pac_asm.specs.Results.{◌>>=◌}
 use Rattle.pac_run.specs.Plan.{Plan, plan_of, program_in, set_in}
 use Rattle.pac_run.specs.PlanProofs.{program_told, set_told, script_told}
 use Rattle.pac_run.specs.declared.run.RunEnd.{RunEnd}
-use Rattle.pac_run.specs.Recorded.{FilmStops, RunsTo, WritesRun}
+use Rattle.pac_run.specs.Playing.{course_playing, played}
+use Rattle.pac_run.specs.Recorded.{RunsTo, WritesPlay, WritesRun, course_contents}
 use Rattle.pac_run.specs.Resumes.{IsSaveCutAt, Resumes, contents_from, end_state, run_from, state_text}
 use Rattle.pac_run.specs.Run.{Writing, Writings, RunContents, IsUnwritten, TakesText, StopsInText, NothingWritten, Runs, IsRunWhole}
-use Rattle.pac_run.specs.Run.{IsCutAt, frames_text, wave_text, report_text}
+use Rattle.pac_run.specs.Run.{IsCutAt}
 use Rattle.pac_run.specs.Start.{IsFirstBoard}
 use Rattle.pac_run.specs.Started.{Prepares}
 use Rattle.pac_run.specs.Texts as text
-use Rattle.pac_state.specs.Files.{IsFile, IsState}
+use Rattle.pac_state.specs.Files.{IsFile}
 use Rattle.pac_state.specs.Text.{save_text, written_version}
 
 -- ---- judging tells of no refused write and of no state
@@ -72,44 +74,41 @@ plan-writes inputs =
     (set-writes (manifest_of inputs.manifest.now >>= λ read. set_of read inputs.parts.now _))
     (λ set. one-then (script_told (script_of inputs.script.now)) _ (script-writes (script_of inputs.script.now)) (λ script. tt)))
 
--- ---- a run is written
+-- ---- a course's run is written
 
-module _ {F W L R : Type 0} (to : Writings F W L R) (run : RunContents) (listing : TakesText to.listing run.listing) where
-  -- film or wave file broke
-  pub cut-at : (output : Which) (count : ℕ) → FilmStops to.frames to.wave run.frames run.outputs output count → IsUnwritten to.report
+module _ {F W L R : Type 0} (to : Writings F W L R) (inputs : RunInputs) (program : Option Assembled) (old new : CourseValue) where
+  abbrev run : RunContents
+  run = course_contents inputs program old
+
+  cut-at : (output : Which) (count : ℕ) → WritesPlay (played course_playing old new) run.listing to (Err (fault.Write output count))
       → IsCutAt run to output count
-  cut-at which.Frames count broken report = record { listing = listing; film = broken; report = report }
-  cut-at which.Wave count broken report = record { listing = listing; film = broken; report = report }
-  cut-at which.Listing count broken report = absurd broken
-  cut-at which.Report count broken report = absurd broken
-  cut-at which.State count broken report = absurd broken
-  cut-at which.Text count broken report = absurd broken
+  cut-at which.Listing count it = record { listing = it.listing; frames = it.frames; wave = it.wave; report = it.report }
+  cut-at which.Frames count it = record { listing = it.listing; film = it.film.0; report = it.report }
+  cut-at which.Wave count it = record { listing = it.listing; film = it.film.film; report = it.report }
+  cut-at which.Report count it = record {
+    listing = it.listing;
+    frames = it.film.images;
+    wave = it.film.sound;
+    report = subst (λ outcome. StopsInText to.report (text.report outcome run.frames) count) it.film.done.outcome_is it.report;
+  }
+  cut-at which.State count it = absurd it.film
+  cut-at which.Text count it = absurd it.film.untold
 
-  -- both have all
-  module _ (frames : TakesText to.frames (frames_text run)) (wave : TakesText to.wave (wave_text run)) (frame_count : ℕ)
-      (count_is : frame_count ≡ run.frames) (outcome : Outcome) (outcome_is : outcome ≡ run.outcome)
-    where
-      same-report : text.report outcome frame_count ≡ report_text run
-      same-report = (λ i. text.report (outcome_is i) (count_is i))
-
-      pub is-whole : TakesText to.report (text.report outcome frame_count) → IsRunWhole run to outcome
-      is-whole report =
-          record {
-            outcome_is = outcome_is;
-            frames = frames;
-            wave = wave;
-            listing = listing;
-            report = subst (TakesText to.report) same-report report;
-          }
-
-      pub cut-at-report : (count : ℕ) → StopsInText to.report (text.report outcome frame_count) count → IsCutAt run to which.Report count
-      cut-at-report count report =
-          record {
-            listing = listing;
-            frames = frames;
-            wave = wave;
-            report = subst (λ bytes. StopsInText to.report bytes count) same-report report;
-          }
+  pub written : (answer : Result Outcome RunFault) → WritesPlay (played course_playing old new) run.listing to answer
+      → WritesRun run to answer
+  written (Ok outcome) it = record {
+    outcome_is = it.film.done.outcome_is;
+    frames = it.film.images;
+    wave = it.film.sound;
+    listing = it.listing;
+    report = subst (λ outcome. TakesText to.report (text.report outcome run.frames)) it.film.done.outcome_is it.report;
+  }
+  written (Err (fault.Write output count)) it = cut-at output count it
+  written (Err fault.NoMemory) it = absurd it
+  written (Err (fault.Source refusal)) it = absurd it
+  written (Err (fault.Set refusal)) it = absurd it
+  written (Err (fault.Script refusal)) it = absurd it
+  written (Err (fault.State refusal)) it = absurd it
 
 -- ---- a run from power-on or from a state file
 

@@ -1,8 +1,8 @@
 -- Of two plays, the run of the first, saved, and that of the second, resumed from what was saved, are the run of both.
-use Rattle.std.proofs.Common.{◌≡◌, ℕ, ◌+◌, ◌-◌, ◌*◌, ◌/◌, ◌%◌, ◌<◌, ◌≤◌, zero, suc, min, pos, nat_le, arith}
-use Rattle.std.proofs.Common.{Bool, true, false, not, ◌&&◌, ◌||◌, is_some}
+use Rattle.std.proofs.Common.{◌≡◌, ℕ, ◌+◌, ◌-◌, ◌*◌, ◌%◌, ◌<◌, ◌≤◌, zero, suc, pos, nat_le, arith}
+use Rattle.std.proofs.Common.{Bool, true, false, not, ◌||◌, is_some}
 use Rattle.std.proofs.Common.{List, [], ◌∷◌, ◌++◌, length, replicate, Option, None}
-use Rattle.std.proofs.Common.{Some, refl, sym, ap, subst, ◌∙◌, append-nil, length-append}
+use Rattle.std.proofs.Common.{Some, refl, sym, ap, ◌∙◌, append-nil, length-append}
 use Rattle.std.proofs.lemmas.Bool.Decides.{nat_tests}
 use Rattle.pac_asm.specs.PlacedItems.{Item, AllLie}
 use Rattle.pac_board_course.specs.BoardView.{BoardView, IsBoard}

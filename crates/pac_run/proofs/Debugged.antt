@@ -1,56 +1,50 @@
 -- The answers of a run under a debugger, one by one.
-use Rattle.std.proofs.Common.{◌≡◌, ℕ, List, Option, None, Ok, Err, refl, sym, ap, subst, ◌∙◌}
+use Rattle.std.proofs.Common.{◌≡◌, ℕ, List, Option, None, Result, Ok, Err, refl, sym, ap, subst, ◌∙◌}
 use Rattle.std.specs.Str.Lines.{lines}
+use mathlib.Core.List.{IsPrefix}
 use Rattle.pac_board_course.specs.Stretches.{total_frames}
 use Rattle.pac_asm.specs.Assembled.{Assembled}
 use Rattle.pac_board_course.specs.Output.{Output}
 use Rattle.pac_board_course.specs.State.{BoardValue}
+use Rattle.pac_board_course.specs.declared.outcome.Outcome.{Outcome}
 use Rattle.pac_debug.specs.MotionsLaws.{IsOutcome}
-use Rattle.pac_debug.specs.RunningLaws.{whole_run}
+use Rattle.pac_debug.specs.Running.{Setting}
 use Rattle.pac_debug.specs.Session.{SessionValue, session_at_start}
 use Rattle.pac_run.specs.declared.fault.Output.{Output as Which}
 use Rattle.pac_run.specs.declared.fault.Output.TheVariants as which
 use Rattle.pac_run.specs.declared.fault.RunFault.{RunFault}
 use Rattle.pac_run.specs.declared.fault.RunFault.TheVariants as fault
 use Rattle.pac_run.specs.declared.inputs.RunInputs.{RunInputs}
-use Rattle.pac_board_course.specs.declared.outcome.Outcome.{Outcome}
-use Rattle.pac_run.specs.DebugsProofs.{IsReady}
-use Rattle.pac_run.specs.Debugs.{setting_of_plan, IsBrokenAt, Debugs}
 use Rattle.pac_run.specs.declared.plan.Prepared.{Prepared}
+use Rattle.pac_run.specs.DebugsProofs.{IsReady}
+use Rattle.pac_run.specs.Debugs.{Debugs, IsBrokenAt, IsUntold, setting_of_plan}
 use Rattle.pac_run.specs.Plan.{Plan, plan_with}
+use Rattle.pac_run.specs.Playing.{Played, session_played, told_played}
+use Rattle.pac_run.specs.Recorded.{TextBreaks, WaveBreaks, WritesPlay}
 use Rattle.pac_run.specs.Started.{IsPrepared, Prepares}
-use Rattle.pac_run.specs.Run.{Writing, Writings, TakesText, StopsInText, IsUnwritten, NothingWritten, outcome_of, trace_of}
-use Rattle.pac_run.specs.Run.{contents_of, frames_text, wave_text}
+use Rattle.pac_run.specs.Run.{Writing, Writings, TakesText, StopsInText, IsUnwritten, NothingWritten, IsRunWhole, contents_of, trace_of}
 use Rattle.pac_run.specs.Texts as text
-use Rattle.pac_run.specs.Recorded.{WatchedTill}
-use Rattle.pac_run.specs.Watched.{AllTold}
-use Rattle.pac_run.proofs.Answered.{NoWrite, plan-writes, cut-at-report, is-whole}
+use Rattle.pac_run.specs.Watched.{HasSoundOf, ToldAtWave}
+use Rattle.pac_run.proofs.Answered.{NoWrite, plan-writes}
 use Rattle.pac_run.proofs.Traced.{session-outputs, session-outcome, seen-through, same-setting}
 
 -- a session that was made of what was prepared
-pub ready-session : (inputs : RunInputs) (prepared : Prepared) (session : SessionValue) (frames : ℕ) → IsPrepared inputs None prepared
+pub ready-session : (inputs : RunInputs) (prepared : Prepared) (session : SessionValue) → IsPrepared inputs None prepared
     → session ≡ session_at_start (record {
       set = prepared.board.value.set;
       switches = prepared.board.value.state.now.board.memory.switches;
       script = prepared.script;
     }) prepared.board.value.made
-    → frames ≡ total_frames prepared.script → IsReady inputs prepared.program session frames
-ready-session inputs prepared session frames ready is count =
+    → IsReady inputs prepared.program session
+ready-session inputs prepared session ready is =
     let same : session ≡ session_at_start (record { set = prepared.board.value.set; switches = inputs.dip; script = prepared.script }) 0 =
     is ∙ ap (λ (board : BoardValue). session_at_start (record {
       set = prepared.board.value.set;
       switches = board.state.now.board.memory.switches;
       script = prepared.script;
     }) board.made) ready.board.first in
-    subst (λ it. IsReady inputs prepared.program it frames) (sym same)
-    (record {
-      plan_is = ready.plan_is;
-      switches = refl;
-      session_is = refl;
-      frames_is = count;
-      whole = ready.whole;
-      lie = ready.lie;
-    })
+    subst (λ it. IsReady inputs prepared.program it) (sym same)
+    (record { plan_is = ready.plan_is; switches = refl; session_is = refl; whole = ready.whole; lie = ready.lie })
 
 module _ {F W L R T : Type 0} (inputs : RunInputs) (commands : List ℕ) (to : Writings F W L R) (words : Writing T) where
   -- nothing was written
@@ -63,107 +57,107 @@ module _ {F W L R T : Type 0} (inputs : RunInputs) (commands : List ℕ) (to : W
   refused-all (fault.Write output count) is none silent = absurd (subst NoWrite is (plan-writes inputs))
   refused-all fault.NoMemory is none silent = (none, silent)
 
-  module _ (program : Option Assembled) (session : SessionValue) (frames : ℕ) (ready : IsReady inputs program session frames) where
+  module _ (program : Option Assembled) (session : SessionValue) (ready : IsReady inputs program session) (unplayed : Type 0)
+      (still : unplayed → IsUnwritten words) where
     abbrev plan : Plan
     plan = plan_with inputs program session.setting.set session.setting.script
 
-    pub unlisted : (count : ℕ) → StopsInText to.listing plan.listing count → IsUnwritten to.frames → IsUnwritten to.wave →
-        IsUnwritten to.report
-        → IsUnwritten words → Debugs inputs commands to words (Err (fault.Write which.Listing count))
-    unlisted count stopped still_frames wave report silent =
-        record {
-          plan = plan;
-          plan_is = ready.plan_is;
-          holds = (
-            seen-through inputs program session frames ready,
-            (record { listing = stopped; frames = still_frames; wave = wave; report = report }, silent),
-          );
-        }
+    abbrev setting : Setting
+    setting = setting_of_plan plan inputs.dip
 
     abbrev outputs : List Output
-    outputs = (whole_run session.setting).outputs
+    outputs = (trace_of plan inputs.dip).outputs
 
-    same : outputs ≡ (trace_of plan inputs.dip).outputs
-    same = session-outputs inputs program session frames ready
-
-    setting : session.setting ≡ setting_of_plan plan inputs.dip
-    setting = sym (same-setting inputs program session frames ready)
+    abbrev played : Played
+    played = told_played words setting outputs (IsOutcome session) (lines commands) unplayed
 
     -- what a session's run leaves, by its answer: its run is the plan's trace
-    broken-at : (output : Which) (count : ℕ)
-        → WatchedTill to.frames to.wave words (total_frames session.setting.script) outputs session.setting (lines commands) output count
-        → TakesText to.listing plan.listing → IsUnwritten to.report → IsBrokenAt plan inputs.dip commands to words output count
-    broken-at output count till listing report =
-        broken-so output count
-        (subst (λ it. WatchedTill to.frames to.wave words (total_frames plan.script) (trace_of plan inputs.dip).outputs it
-        (lines commands) output
-        count) setting
-        (subst (λ all. WatchedTill to.frames to.wave words (total_frames plan.script) all session.setting (lines commands) output count)
-        same
-        till)) listing report
-      where
-        broken-so : (output : Which) (count : ℕ)
-            → WatchedTill to.frames to.wave words (total_frames plan.script) (trace_of plan inputs.dip).outputs
-            (setting_of_plan plan inputs.dip)
-            (lines commands) output count
-            → TakesText to.listing plan.listing → IsUnwritten to.report → IsBrokenAt plan inputs.dip commands to words output count
-        broken-so which.Frames count till listing report = (record { listing = listing; film = till.0; report = report }, till.1)
-        broken-so which.Wave count till listing report = (record { listing = listing; film = till.0; report = report }, till.1)
-        broken-so which.Listing count till listing report = absurd till
-        broken-so which.Report count till listing report = absurd till
-        broken-so which.State count till listing report = absurd till
-        broken-so which.Text count till listing report = record { listing = listing; report = report; untold = till }
-
-    pub broke : (output : Which) (count : ℕ)
-        → WatchedTill to.frames to.wave words (total_frames session.setting.script) outputs session.setting (lines commands) output count
-        → TakesText to.listing plan.listing → IsUnwritten to.report → Debugs inputs commands to words (Err (fault.Write output count))
-    broke output count till listing report =
+    whole : (outcome : Outcome) → WritesPlay played plan.listing to (Ok outcome) → IsRunWhole (contents_of plan inputs.dip) to outcome
+    whole outcome it =
+        let same = session-outcome inputs program session ready outcome it.film.done.outcome_is in
         record {
-          plan = plan;
-          plan_is = ready.plan_is;
-          holds = (seen-through inputs program session frames ready, broken-at output count till listing report);
+          outcome_is = same;
+          frames = it.film.images;
+          wave = it.film.sound;
+          listing = it.listing;
+          report = subst (λ outcome. TakesText to.report (text.report outcome (total_frames plan.script))) same it.report;
         }
 
-    module _ (outcome : Outcome) (outcome_is : IsOutcome session outcome)
-        (shown : TakesText to.frames (text.images_text outputs)
-        × TakesText to.wave (text.wave_file_text (total_frames session.setting.script) outputs)
-        × AllTold words session.setting (lines commands)) (listing : TakesText to.listing plan.listing) where
-      ends-so : outcome ≡ outcome_of (trace_of plan inputs.dip)
-      ends-so = session-outcome inputs program session frames ready outcome outcome_is
-
-      all-told : AllTold words (setting_of_plan plan inputs.dip) (lines commands)
-      all-told = subst (λ it. AllTold words it (lines commands)) setting shown.2
-
-      -- film and sound are those of the plan's trace
-      images : TakesText to.frames (frames_text (contents_of plan inputs.dip))
-      images = subst (λ outputs. TakesText to.frames (text.images_text outputs)) same shown.0
-
-      sound : TakesText to.wave (wave_text (contents_of plan inputs.dip))
-      sound = subst (λ outputs. TakesText to.wave (text.wave_file_text (total_frames plan.script) outputs)) same shown.1
-
-      pub all-watched : TakesText to.report (text.report outcome frames) → Debugs inputs commands to words (Ok outcome)
-      all-watched report =
+    unreported : (count : ℕ) → WritesPlay played plan.listing to (Err (fault.Write which.Report count))
+        → IsBrokenAt plan inputs.dip commands to words which.Report count
+    unreported count it =
+        let same = session-outcome inputs program session ready it.outcome it.film.done.outcome_is in (
           record {
-            plan = plan;
-            plan_is = ready.plan_is;
-            holds = record {
-              files = is-whole to (contents_of plan inputs.dip) listing images sound frames ready.frames_is outcome ends-so report;
-              seen = seen-through inputs program session frames ready;
-              told = all-told;
-            };
-          }
+            listing = it.listing;
+            frames = it.film.images;
+            wave = it.film.sound;
+            report = subst (λ outcome. StopsInText to.report (text.report outcome (total_frames plan.script)) count) same it.report;
+          },
+          it.film.done.told,
+        )
 
-      pub unreported : (count : ℕ) → StopsInText to.report (text.report outcome frames) count
-          → Debugs inputs commands to words (Err (fault.Write which.Report count))
-      unreported count report =
-          record {
-            plan = plan;
-            plan_is = ready.plan_is;
-            holds = (
-              seen-through inputs program session frames ready,
-              (
-                cut-at-report to (contents_of plan inputs.dip) listing images sound frames ready.frames_is outcome ends-so count report,
-                all-told,
-              ),
-            );
-          }
+    told-at-wave : (count : ℕ) (it : WaveBreaks played to.frames to.wave count)
+        → ToldAtWave words setting (lines commands) outputs it.film.sound.taken
+    told-at-wave count it = record {
+      header_first = λ few. still (it.header_first few);
+      past = λ enough. let heard = it.past enough in
+          record { waiting = heard.waiting; among = heard.among; no_picture = heard.no_picture; told = heard.told };
+    }
+
+    untold : (count : ℕ) → TextBreaks played to.frames to.wave count → IsUntold plan inputs.dip commands to words count
+    untold count it =
+        let cut = it.untold in
+        record {
+          told = cut.told;
+          more = cut.more;
+          left = cut.left;
+          tells = cut.tells;
+          refused = cut.refused;
+          least = cut.least;
+          among = subst (λ taken. IsPrefix taken outputs) cut.taken_is it.among;
+          images = subst (λ taken. TakesText to.frames (text.images_text taken)) cut.taken_is it.images;
+          sound = subst (λ taken. HasSoundOf to.wave (total_frames plan.script) taken) cut.taken_is it.sound;
+        }
+
+    broken : (output : Which) (count : ℕ) → WritesPlay played plan.listing to (Err (fault.Write output count))
+        → IsBrokenAt plan inputs.dip commands to words output count
+    broken which.Listing count it =
+        (record { listing = it.listing; frames = it.frames; wave = it.wave; report = it.report }, still it.unplayed)
+    broken which.Report count it = unreported count it
+    broken which.Frames count it = (record { listing = it.listing; film = it.film.0; report = it.report }, it.film.1)
+    broken which.Wave count it =
+        (record { listing = it.listing; film = it.film.film; report = it.report }, told-at-wave count it.film)
+    broken which.Text count it = record { listing = it.listing; report = it.report; untold = untold count it.film }
+    broken which.State count it = absurd it.film
+
+    by-answer : (answer : Result Outcome RunFault) → WritesPlay played plan.listing to answer → Debugs inputs commands to words answer
+    by-answer (Ok outcome) it = record {
+      plan = plan;
+      plan_is = ready.plan_is;
+      holds = record {
+        files = whole outcome it;
+        seen = seen-through inputs program session ready;
+        told = it.film.done.told;
+      };
+    }
+    by-answer (Err (fault.Write output count)) it = record {
+      plan = plan;
+      plan_is = ready.plan_is;
+      holds = (seen-through inputs program session ready, broken output count it);
+    }
+    by-answer (Err fault.NoMemory) it = absurd it
+    by-answer (Err (fault.Source refusal)) it = absurd it
+    by-answer (Err (fault.Set refusal)) it = absurd it
+    by-answer (Err (fault.Script refusal)) it = absurd it
+    by-answer (Err (fault.State refusal)) it = absurd it
+
+    pub debugged : (answer : Result Outcome RunFault)
+        → WritesPlay (session_played words session (lines commands) unplayed) plan.listing to answer
+        → Debugs inputs commands to words answer
+    debugged answer it =
+        let Writes : Setting → List Output → Type 0 =
+        λ (setting : Setting) (outputs : List Output).
+        WritesPlay (told_played words setting outputs (IsOutcome session) (lines commands) unplayed) plan.listing to answer in
+        by-answer answer
+        (subst (λ setting. Writes setting outputs) (sym (same-setting inputs program session ready))
+        (subst (λ outputs. Writes session.setting outputs) (session-outputs inputs program session ready) it))

@@ -12,7 +12,9 @@ use Rattle.pac_debug.specs.Running.{Setting}
 use Rattle.pac_run.specs.declared.fault.Output.{Output as Which}
 use Rattle.pac_run.specs.declared.fault.Output.TheVariants as which
 use Rattle.pac_run.specs.declared.fault.OutputFault.{OutputFault}
-use Rattle.pac_run.specs.Recorded.{FilmStops, RecordsOutputs, WatchedTill, WatchesOutputs, WritesWholeText}
+use Rattle.pac_board_course.specs.declared.outcome.Outcome.{Outcome}
+use Rattle.pac_run.specs.Playing.{Played}
+use Rattle.pac_run.specs.Recorded.{BreaksPlay, RecordsPlay, WritesWholeText}
 use Rattle.pac_run.specs.Run.{Writing, TakesText, StopsInText, IsUnwritten, FramesStop, WaveStops, writing}
 use Rattle.pac_run.specs.Watched.{AllTold, ToldTill, ToldAtWave, HasSoundOf, IsLineUntold}
 
@@ -74,7 +76,7 @@ written took refused owner left (Err fault) text file new fresh puts writer same
 
 -- ---- one writer
 
-pub text-stops : {V W : Type 0} {one : Writing V} {other : Writing W} → Carries one other → (text : List ℕ) (count : ℕ)
+abbrev pub text-stops : {V W : Type 0} {one : Writing V} {other : Writing W} → Carries one other → (text : List ℕ) (count : ℕ)
     → StopsInText one text count → StopsInText other text count
 text-stops carry text count stop =
     record { taken = stop.taken; stopped = carry.stops text stop.taken stop.stopped; count_is = stop.count_is }
@@ -86,41 +88,50 @@ module _ {F G W V : Type 0} {frames : Writing F} {other_frames : Writing G} {wav
   abbrev pub frames-stop : (total : ℕ) (outputs : List Output) (count : ℕ) → FramesStop frames wave total outputs count
       → FramesStop other_frames other_wave total outputs count
   frames-stop total outputs count stop =
-      record {
-        images = record {
-          taken = stop.images.taken;
-          stopped = shows.stops _ stop.images.taken stop.images.stopped;
-          count_is = stop.images.count_is;
-        };
-        sound = sounds.takes _ stop.sound;
-      }
+      record { images = text-stops shows _ count stop.images; sound = sounds.takes _ stop.sound }
 
   abbrev pub wave-stops : (total : ℕ) (outputs : List Output) (count : ℕ) → WaveStops frames wave total outputs count
       → WaveStops other_frames other_wave total outputs count
   wave-stops total outputs count stop =
       record {
-        sound = record {
-          taken = stop.sound.taken;
-          stopped = sounds.stops _ stop.sound.taken stop.sound.stopped;
-          count_is = stop.sound.count_is;
-        };
+        sound = text-stops sounds _ count stop.sound;
         header_first = λ few. shows.still (stop.header_first few);
         images = λ past. shows.takes _ (stop.images past);
       }
 
-  film-stops : (total : ℕ) (outputs : List Output) (output : Which) (count : ℕ) → FilmStops frames wave total outputs output count
-      → FilmStops other_frames other_wave total outputs output count
-  film-stops total outputs which.Frames count stop = frames-stop total outputs count stop
-  film-stops total outputs which.Wave count stop = wave-stops total outputs count stop
-  film-stops total outputs which.Listing count stop = stop
-  film-stops total outputs which.Report count stop = stop
-  film-stops total outputs which.State count stop = stop
-  film-stops total outputs which.Text count stop = stop
+  sound-of : (total : ℕ) (given : List Output) → HasSoundOf wave total given → HasSoundOf other_wave total given
+  sound-of total given (inl takes) = inl (sounds.takes _ takes)
+  sound-of total given (inr breaks) =
+      inr (record {
+        count = breaks.count;
+        sound = text-stops sounds _ breaks.count breaks.sound;
+        past_header = breaks.past_header;
+        no_picture = breaks.no_picture;
+      })
 
-  pub records : {A : Type 0} (total : ℕ) (outputs : List Output) (answer : Result A OutputFault)
-      → RecordsOutputs frames wave total outputs answer → RecordsOutputs other_frames other_wave total outputs answer
-  records total outputs (Ok done) (images, sound) = (shows.takes _ images, sounds.takes _ sound)
-  records total outputs (Err fault) stops = film-stops total outputs fault.output fault.count stops
+  pub breaks : (play : Played) (output : Which) (count : ℕ) → BreaksPlay play frames wave output count
+      → BreaksPlay play other_frames other_wave output count
+  breaks play which.Frames count (stop, told) = (frames-stop play.frames play.gives count stop, told)
+  breaks play which.Wave count it = record {
+    film = wave-stops play.frames play.gives count it.film;
+    header_first = it.header_first;
+    past = it.past;
+  }
+  breaks play which.Text count it = record {
+    taken = it.taken;
+    among = it.among;
+    untold = it.untold;
+    images = shows.takes _ it.images;
+    sound = sound-of play.frames it.taken it.sound;
+  }
+  breaks play which.Listing count none = none
+  breaks play which.Report count none = none
+  breaks play which.State count none = none
+
+  pub records : (play : Played) (answer : Result Outcome OutputFault) → RecordsPlay play frames wave answer
+      → RecordsPlay play other_frames other_wave answer
+  records play (Ok outcome) it = record { images = shows.takes _ it.images; sound = sounds.takes _ it.sound; done = it.done }
+  records play (Err fault) it = breaks play fault.output fault.count it
 
 -- ---- and the text of a session
 
@@ -149,20 +160,6 @@ module _ {T U : Type 0} {words : Writing T} {other_words : Writing U} (tells : C
 module _ {F G W V T U : Type 0} {frames : Writing F} {other_frames : Writing G} {wave : Writing W} {other_wave : Writing V}
     {words : Writing T} {other_words : Writing U} (shows : Carries frames other_frames) (sounds : Carries wave other_wave)
     (tells : Carries words other_words) (total : ℕ) (outputs : List Output) (setting : Setting) (lines : List (List ℕ)) where
-  sound-of : (given : List Output) → HasSoundOf wave total given → HasSoundOf other_wave total given
-  sound-of given (inl takes) = inl (sounds.takes _ takes)
-  sound-of given (inr breaks) =
-      inr (record {
-        count = breaks.count;
-        sound = record {
-          taken = breaks.sound.taken;
-          stopped = sounds.stops _ breaks.sound.taken breaks.sound.stopped;
-          count_is = breaks.sound.count_is;
-        };
-        past_header = breaks.past_header;
-        no_picture = breaks.no_picture;
-      })
-
   pub line-untold : (count : ℕ) → IsLineUntold frames wave words total outputs setting lines count
       → IsLineUntold other_frames other_wave other_words total outputs setting lines count
   line-untold count untold =
@@ -171,66 +168,9 @@ module _ {F G W V T U : Type 0} {frames : Writing F} {other_frames : Writing G} 
         more = untold.more;
         left = untold.left;
         tells = untold.tells;
-        refused = record {
-          taken = untold.refused.taken;
-          stopped = tells.stops _ untold.refused.taken untold.refused.stopped;
-          count_is = untold.refused.count_is;
-        };
+        refused = text-stops tells _ count untold.refused;
         least = untold.least;
         among = untold.among;
         images = shows.takes _ untold.images;
-        sound = sound-of _ untold.sound;
+        sound = sound-of shows sounds total _ untold.sound;
       }
-
-  watched-till : (output : Which) (count : ℕ) → WatchedTill frames wave words total outputs setting lines output count
-      → WatchedTill other_frames other_wave other_words total outputs setting lines output count
-  watched-till which.Frames count (stop, told) = (frames-stop shows sounds total outputs count stop, told-till tells setting lines _ told)
-  watched-till which.Wave count (stop, told) =
-      (wave-stops shows sounds total outputs count stop, told-at-wave tells setting lines outputs _ told)
-  watched-till which.Text count untold = line-untold count untold
-  watched-till which.Listing count none = none
-  watched-till which.Report count none = none
-  watched-till which.State count none = none
-
-  pub watches : {A : Type 0} (answer : Result A OutputFault) → WatchesOutputs frames wave words total outputs setting lines answer
-      → WatchesOutputs other_frames other_wave other_words total outputs setting lines answer
-  watches (Ok done) (images, sound, told) = (shows.takes _ images, sounds.takes _ sound, all-told tells setting lines told)
-  watches (Err fault) till = watched-till fault.output fault.count till
-
--- ---- when the loans end
-
-abbrev pub wave-back : {F W : Type 0} (frames : Writing F) (took : W → List ℕ → W → Type 0) (refused : W → W → Type 0) (wave new : MutBor W)
-    (left : W) (total : ℕ) (outputs : List Output) (count : ℕ)
-    → WaveStops frames (writing (lent_took took) (lent_refused refused) wave new) total outputs count
-    → (writer : MutBor W) → writer ≡ new → Ends wave writer left
-    → WaveStops frames (writing took refused wave.now left) total outputs count
-wave-back frames took refused wave new left total outputs count stops writer same ends =
-    wave-stops (itself frames) (carries-back took refused wave new writer left same ends) total outputs count stops
-
-module _ {F W A : Type 0} (took_f : F → List ℕ → F → Type 0) (refused_f : F → F → Type 0) (took_w : W → List ℕ → W → Type 0)
-    (refused_w : W → W → Type 0) (frames new_frames : MutBor F) (wave new_wave : MutBor W) (left_f : F) (left_w : W) (total : ℕ)
-    (outputs : List Output) (answer : Result A OutputFault) where
-  pub records-back :
-      RecordsOutputs (writing (lent_took took_f) (lent_refused refused_f) frames new_frames)
-      (writing (lent_took took_w) (lent_refused refused_w) wave new_wave) total outputs answer
-      → (writer_f : MutBor F) (writer_w : MutBor W) → writer_f ≡ new_frames → writer_w ≡ new_wave → Ends frames writer_f left_f
-      → Ends wave writer_w left_w
-      → RecordsOutputs (writing took_f refused_f frames.now left_f) (writing took_w refused_w wave.now left_w) total outputs answer
-  records-back film writer_f writer_w same_f same_w ends_f ends_w =
-      records (carries-back took_f refused_f frames new_frames writer_f left_f same_f ends_f)
-      (carries-back took_w refused_w wave new_wave writer_w left_w same_w ends_w) total outputs answer film
-
-  pub watches-back : {T : Type 0} (took : T → List ℕ → T → Type 0) (refused : T → T → Type 0) (words later : MutBor T) (left : T)
-      (setting : Setting) (lines : List (List ℕ))
-      → WatchesOutputs (writing (lent_took took_f) (lent_refused refused_f) frames new_frames)
-      (writing (lent_took took_w) (lent_refused refused_w) wave new_wave) (writing (lent_took took) (lent_refused refused) words later)
-      total outputs setting lines answer
-      → (writer_f : MutBor F) (writer_w : MutBor W) (writer : MutBor T) → writer_f ≡ new_frames → writer_w ≡ new_wave → writer ≡ later
-      → Ends frames writer_f left_f → Ends wave writer_w left_w → Ends words writer left
-      → WatchesOutputs (writing took_f refused_f frames.now left_f) (writing took_w refused_w wave.now left_w)
-      (writing took refused words.now left) total outputs setting lines answer
-  watches-back took refused words later left setting lines film writer_f writer_w writer same_f same_w same ends_f ends_w ends =
-      watches (carries-back took_f refused_f frames new_frames writer_f left_f same_f ends_f)
-      (carries-back took_w refused_w wave new_wave writer_w left_w same_w ends_w)
-      (carries-back took refused words later writer left same ends) total
-      outputs setting lines answer film

@@ -2,6 +2,8 @@ pub mod Planned
 pub mod Begins
 pub mod Heard
 pub mod Filmed
+pub mod Broken
+pub mod Played
 pub mod Lent
 pub mod Carried
 pub mod Traced

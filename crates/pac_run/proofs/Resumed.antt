@@ -1,5 +1,5 @@
 -- The answers of what was prepared, begun and written.
-use Rattle.std.proofs.Common.{◌≡◌, ℕ, List, Option, Ok, Err, ap, subst, ◌∙◌}
+use Rattle.std.proofs.Common.{◌≡◌, ℕ, List, Option, Result, Ok, Err, ap, subst, ◌∙◌}
 use Rattle.pac_board_course.specs.Course.{CourseValue, begun, course_after, way_on}
 use Rattle.pac_board_course.specs.CourseProofs.{board_asked}
 use Rattle.pac_board_course.specs.State.{BoardState, BoardValue}
@@ -9,12 +9,13 @@ use Rattle.pac_run.specs.declared.fault.RunFault.{RunFault}
 use Rattle.pac_run.specs.declared.inputs.RunInputs.{RunInputs}
 use Rattle.pac_run.specs.declared.plan.Prepared.{Prepared}
 use Rattle.pac_run.specs.Plan.{Plan, plan_with}
-use Rattle.pac_run.specs.Recorded.{IsRunTo, RunsTo, WritesRun, course_contents}
+use Rattle.pac_run.specs.Playing.{course_playing, played}
+use Rattle.pac_run.specs.Recorded.{IsRunTo, RunsTo, WritesPlay, WritesRun, course_contents}
 use Rattle.pac_run.specs.Resumes.{contents_from, last_state}
 use Rattle.pac_run.specs.Run.{Writings, WithPlan}
 use Rattle.pac_run.specs.Resumes.{WithFirstBoard}
 use Rattle.pac_run.specs.Started.{IsPrepared}
-use Rattle.pac_run.proofs.Answered.{broke-off}
+use Rattle.pac_run.proofs.Answered.{broke-off, written}
 use Rattle.pac_run.proofs.Traced.{same-contents, same-state}
 
 module _ (inputs : RunInputs) (from : Option (List ℕ)) (prepared : Prepared) (ready : IsPrepared inputs from prepared)
@@ -30,21 +31,26 @@ module _ (inputs : RunInputs) (from : Option (List ℕ)) (prepared : Prepared) (
         ready.board.first
 
     module _ {F W L R : Type 0} (to : Writings F W L R) where
-      pub held-back-early : (why : RunFault) → WritesRun (course_contents inputs prepared.program course) to (Err why)
-          → RunsTo inputs from to (Err why)
-      held-back-early why written =
-          broke-off to inputs from plan ready.plan_is prepared.board.value ready.board.first why
-          (subst (λ run. WritesRun run to (Err why)) contents-are written)
+      abbrev Writes : Result Outcome RunFault → (new : CourseValue) → Type 0
+      Writes answer new = WritesPlay (played course_playing course new) plan.listing to answer
+
+      written-so : (answer : Result Outcome RunFault) (new : CourseValue) → Writes answer new
+          → WritesRun (contents_from plan inputs.dip from prepared.board.value) to answer
+      written-so answer new it =
+          subst (λ run. WritesRun run to answer) contents-are (written to inputs prepared.program course new answer it)
+
+      pub held-back-early : (why : RunFault) (new : CourseValue) → Writes (Err why) new → RunsTo inputs from to (Err why)
+      held-back-early why new it =
+          broke-off to inputs from plan ready.plan_is prepared.board.value ready.board.first why (written-so (Err why) new it)
 
       -- to its end
-      pub ran-to : (outcome : Outcome) → WritesRun (course_contents inputs prepared.program course) to (Ok outcome)
-          → (new : CourseValue) → new ≡ course_after course (way_on course) → (end : BoardValue) → end ≡ board_asked new
+      pub ran-to : (outcome : Outcome) (new : CourseValue) → Writes (Ok outcome) new → (end : BoardValue) → end ≡ board_asked new
           → IsState end.state
           → WithPlan inputs (λ plan. WithFirstBoard plan inputs.dip from (IsRunTo plan inputs.dip from to outcome end))
-      ran-to outcome files new played end asked holds =
+      ran-to outcome new it end asked holds =
           let end-of : end ≡ board_asked (course_after (begun prepared.board.value prepared.script) (way_on (begun prepared.board.value
           prepared.script))) =
-          asked ∙ ap board_asked played ∙ ap (λ course. board_asked (course_after course (way_on course))) begins in
+          asked ∙ ap board_asked it.film.done.course ∙ ap (λ course. board_asked (course_after course (way_on course))) begins in
           let there : end.state ≡ last_state plan inputs.dip from prepared.board.value =
           ap (λ (board : BoardValue). board.state) end-of
           ∙ same-state inputs prepared.program prepared.board.value prepared.script ready.whole ready.lie ready.board.holds from
@@ -56,7 +62,7 @@ module _ (inputs : RunInputs) (from : Option (List ℕ)) (prepared : Prepared) (
               board = prepared.board.value;
               is_first = ready.board.first;
               holds = record {
-                files = subst (λ run. WritesRun run to (Ok outcome)) contents-are files;
+                files = written-so (Ok outcome) new it;
                 set_is = ap (λ (board : BoardValue). board.set) end-of;
                 state_is = there;
                 in_order = record {

@@ -36,7 +36,8 @@ use Rattle.pac_run.specs.Debugs.{IsSeenThrough, setting_of_plan}
 use Rattle.pac_run.specs.Plan.{Plan, plan_with}
 use Rattle.pac_run.specs.PlanProofs.{program_items}
 use Rattle.pac_run.specs.PlanProofs.{PlaysProgram}
-use Rattle.pac_run.specs.Recorded.{course_contents, outcome_between}
+use Rattle.pac_run.specs.Playing.{outcome_between}
+use Rattle.pac_run.specs.Recorded.{course_contents}
 use Rattle.pac_run.specs.Resumes.{contents_from, end_state, resumed_of, run_from, without_history}
 use Rattle.pac_run.specs.Run.{RunContents, trace_of, outcome_of}
 use Rattle.pac_run.specs.Start.{IsFirstBoard}
@@ -193,8 +194,8 @@ is-near course gone few =
     omega (arith, near, gone, few)
 
 -- ---- a session's run
-module _ (inputs : RunInputs) (program : Option Assembled) (session : SessionValue) (frames : ℕ)
-    (ready : IsReady inputs program session frames)
+module _ (inputs : RunInputs) (program : Option Assembled) (session : SessionValue)
+    (ready : IsReady inputs program session)
   where
     abbrev session_plan : Plan
     session_plan = plan_with inputs program session.setting.set session.setting.script

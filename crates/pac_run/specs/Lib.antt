@@ -9,8 +9,9 @@ pub mod Films
 pub mod Run
 pub mod Resumes
 pub mod Parts
-pub mod Recorded
 pub mod Watched
+pub mod Playing
+pub mod Recorded
 pub mod Debugs
 pub mod DebugsProofs
 pub mod Neutral

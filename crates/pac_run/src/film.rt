@@ -1,18 +1,21 @@
 //! Where a run's pictures and samples go: the film and the wave file, side by side.
 
-ghost use Rattle.std.specs.Prelude.{◌≡◌, ◌<◌, ◌-◌, Some, IsSome, IfOk};
+ghost use Rattle.std.specs.Prelude.{◌≡◌, ◌<◌, ◌≤◌, ◌-◌, Some, IsSome, IfOk, pos, replicate};
 ghost use Rattle.pac_board_course.specs.Output.{Sound};
+ghost use Rattle.pac_board_course.specs.Stretches.{most_frames};
+ghost use Rattle.pac_media.specs.Samples.{samples_text};
 ghost use Rattle.pac_media.specs.Sound.{sample_room};
-ghost use Rattle.pac_board_course.specs.Stretches.{total_frames};
+ghost use Rattle.pac_run.specs.declared.fault.Output.TheVariants.{Wave};
 ghost use Rattle.pac_run.specs.Films.{film_took, film_refused};
-ghost use Rattle.pac_board_course.specs.Course.{way_on};
-ghost use Rattle.pac_board_course.specs.State.{nothing_due};
-ghost use Rattle.pac_run.specs.Recorded.{HasPlayed, PerformsFilm, RecordsOutputs};
+ghost use Rattle.pac_run.specs.Playing.{played};
+ghost use Rattle.pac_run.specs.Recorded.{PerformsFilm, RecordsPlay, WritesSound};
 ghost use Rattle.pac_run.specs.Run.{writing};
 
 use crate::fault::{Output, OutputFault};
-use pac_board_course::{Course, Picture, Refused, Sink, Stop};
-use pac_media::{Frames, Image, Out, WaveFile};
+use crate::play::Plays;
+use pac_board_course::{Outcome, Picture, Refused, Sink};
+use pac_debug::CommandFault;
+use pac_media::{Frames, Image, Out, WaveFile, WriteFault};
 
 /// The film and the wave file of a run, and which of them refused, if one did.
 #[derive(Drop)]
@@ -81,7 +84,7 @@ impl<F: Out, W: Out> Sink for Film<F, W> {
 }
 
 /// The samples of a frame.
-pub(crate) const FRAME_SAMPLES: u32 = pac_board_course::FRAME_SAMPLES as u32;
+const FRAME_SAMPLES: u32 = pac_board_course::FRAME_SAMPLES as u32;
 
 impl<F: Out, W: Out> Film<F, W> {
     /// Puts a sample that there is room for into the wave file.
@@ -95,62 +98,80 @@ impl<F: Out, W: Out> Film<F, W> {
     }
 
     /// The output that refused.
-    pub(crate) fn refusal(&self) -> OutputFault
+    fn refusal(&self) -> OutputFault
         requires { IsSome self.now.fault }
         ensures { Some result ≡ self.now.fault }
     {
         self.fault.unwrap()
     }
 
-    /// Plays what is left of a course: all that the board gives out is written, and zeros for the samples that never came.
-    /// Answers the stop, if there was one, or the output that refused.
-    fn perform(&mut self, course: &mut Course) -> Result<Option<Stop>, OutputFault>
-        requires { course.old.board.state.due ≡ nothing_due }
-        ensures played { IfOk result (λ stop. HasPlayed course.old stop course.new) }
-        ensures film { PerformsFilm F.took F.refused W.took W.refused
-            (way_on course.old).outputs self.old result self.new }
+    /// Writes zeros for the samples that never came, and answers what the run came to.
+    fn finish(&mut self, outcome: Outcome) -> Result<Outcome, OutputFault>
+        ensures outcome { IfOk result (λ it. it ≡ outcome) }
+        ensures frames { self.new.frames ≡ self.old.frames }
+        ensures sound { WritesSound W.took W.refused self.old (samples_text (replicate self.old.wave.owed (pos 0))) result self.new }
     {
-        match course.run_to_end(self) {
-            Ok(stop) => match self.wave.finish() {
-                Ok(()) => Ok(stop),
-                Err(fault) => Err(OutputFault {
-                    output: Output::Wave,
+        match self.wave.finish() {
+            Ok(()) => Ok(outcome),
+            Err(fault) => Err(of_wave(fault)),
+        }
+    }
+
+    /// Plays a run: all that it gives out is written, and zeros for the samples that never came. Answers what it came to, or the output
+    /// that refused.
+    fn perform<P: Plays>(&mut self, player: &mut P) -> Result<Outcome, OutputFault>
+        requires ready { P.playing.ready player.old }
+        requires short { P.playing.frames player.old ≤ most_frames }
+        ensures { PerformsFilm F.took F.refused W.took W.refused
+            (played P.playing player.old player.new) self.old result self.new }
+    {
+        match player.play(self) {
+            Ok(outcome) => self.finish(outcome),
+            Err(CommandFault::Refused) => Err(self.refusal()),
+            Err(CommandFault::Text(fault)) => {
+                let _ = self.wave.flush();
+                Err(OutputFault {
+                    output: Output::Text,
                     count: fault.count,
-                }),
-            },
-            Err(_) => Err(self.refusal()),
+                })
+            }
         }
     }
 }
 
-/// Writes the wave's header, then plays what is left of a course and writes frames and samples as they come. Where the header is
-/// refused no frame is begun.
-pub fn record_run<F: Out, W: Out>(
-    course: &mut Course,
+/// A fault of the wave's writer.
+fn of_wave(fault: WriteFault) -> OutputFault
+    ensures { result ≡ record { output = Wave; count = fault.count } }
+{
+    OutputFault {
+        output: Output::Wave,
+        count: fault.count,
+    }
+}
+
+/// Writes the wave's header, then plays a run and writes frames and samples as they come. Where the header is refused no frame is
+/// begun, and nothing is played.
+pub fn record_run<F: Out, W: Out, P: Plays>(
+    player: &mut P,
     image: Image,
     frames: &mut F,
     wave: &mut W,
-) -> Result<Option<Stop>, OutputFault>
-    requires { course.old.board.state.due ≡ nothing_due }
-    ensures played { IfOk result (λ stop. HasPlayed course.old stop course.new) }
-    ensures texts { RecordsOutputs
-        (writing F.took F.refused frames.old frames.new) (writing W.took W.refused wave.old wave.new)
-        (total_frames course.old.script) (way_on course.old).outputs result }
+) -> Result<Outcome, OutputFault>
+    requires { P.playing.ready player.old }
+    ensures { RecordsPlay (played P.playing player.old player.new)
+        (writing F.took F.refused frames.old frames.new) (writing W.took W.refused wave.old wave.new) result }
 {
-    let mut wave = WaveFile::begin(wave, FRAME_SAMPLES * course.frames());
+    let mut wave = WaveFile::begin(wave, FRAME_SAMPLES * player.total());
     if let Err(fault) = wave.flush() {
         let _ = wave.into_writer();
-        return Err(OutputFault {
-            output: Output::Wave,
-            count: fault.count,
-        });
+        return Err(of_wave(fault));
     }
     let mut film = Film {
         frames: Frames::new(frames, image),
         wave,
         fault: None,
     };
-    let recorded = film.perform(course);
+    let recorded = film.perform(player);
     let Film {
         frames,
         wave,

@@ -7,6 +7,7 @@ mod film;
 mod inputs;
 pub mod laws;
 mod plan;
+mod play;
 mod report;
 pub mod resume;
 pub mod run;

@@ -1,13 +1,12 @@
 //! The run as one call.
 
-ghost use Rattle.std.specs.Prelude.{◌≡◌, ◌+◌, ◌/◌, ◌^◌, ◌<◌, IfOk, option_copied};
+ghost use Rattle.std.specs.Prelude.{◌≡◌, option_copied};
 ghost use Rattle.pac_media.specs.CountedProofs.{Puts};
-ghost use Rattle.pac_board_course.specs.Step.{frame_ticks};
 ghost use Rattle.pac_board_course.specs.CourseProofs.{FitsAsked, FitsTime};
-ghost use Rattle.pac_board_course.specs.Course.{begun, course_after, way_on};
-ghost use Rattle.pac_board_course.specs.State.{nothing_due};
+ghost use Rattle.pac_board_course.specs.Course.{begun};
 ghost use Rattle.pac_run.specs.Plan.{listing_in};
-ghost use Rattle.pac_run.specs.Recorded.{RunsTo, WritesRun, WritesWholeText, course_contents, outcome_between};
+ghost use Rattle.pac_run.specs.Playing.{played};
+ghost use Rattle.pac_run.specs.Recorded.{RunsTo, WritesPlay, WritesWholeText};
 ghost use Rattle.pac_run.specs.Run.{Runs, writing, writings};
 ghost use Rattle.pac_run.specs.Texts as text;
 
@@ -15,10 +14,11 @@ use crate::fault::{Output, RunFault};
 use crate::film::record_run;
 use crate::inputs::RunInputs;
 use crate::plan::{Prepared, prepare};
+use crate::play::Plays;
 use crate::report::put_report;
 use crate::writers::Writers;
 use pac_asm::Program;
-use pac_board_course::{Board, Course, FRAME_TICKS, Outcome, Script, Stop};
+use pac_board_course::{Board, Course, Outcome, Script};
 use pac_listing::write_listing;
 use pac_media::{Counted, Image, Out, WriteFault};
 use pac_state::laws::boards_have_states;
@@ -40,7 +40,7 @@ fn put_listing<L: Out>(
 }
 
 /// Writes the listing.
-pub(crate) fn list<L: Out>(
+fn list<L: Out>(
     listing: &mut L,
     source: Option<&[u8]>,
     program: &Option<Program>,
@@ -56,11 +56,7 @@ pub(crate) fn list<L: Out>(
 }
 
 /// Writes the report of what a run of so many frames came to.
-pub(crate) fn report_on<R: Out>(
-    report: &mut R,
-    outcome: Outcome,
-    total: u32,
-) -> Result<(), WriteFault>
+fn report_on<R: Out>(report: &mut R, outcome: Outcome, total: u32) -> Result<(), WriteFault>
     ensures { WritesWholeText
         (writing R.took R.refused report.old report.new)
         (text.report outcome total) result }
@@ -71,21 +67,8 @@ pub(crate) fn report_on<R: Out>(
     written
 }
 
-/// What a run came to that began at this time, after so many steps, and ended on this board.
-fn outcome_since(time: u64, steps: u64, board: &Board, stop: Option<Stop>) -> Outcome
-    requires { board.now.state.now.time / frame_ticks < time / frame_ticks + 2 ^ 32 }
-    ensures { result ≡ outcome_between time steps board.now.state.now stop }
-{
-    Outcome {
-        frames: (board.time() / FRAME_TICKS).saturating_sub(time / FRAME_TICKS) as u32,
-        steps: board.steps().saturating_sub(steps),
-        ticks: board.time().saturating_sub(time),
-        stop,
-    }
-}
-
 /// A script on a board, at its beginning.
-pub(crate) fn begin(board: Box<Board>, script: Script) -> Course
+fn begin(board: Box<Board>, script: Script) -> Course
     requires time { FitsTime board.value script }
     requires asked { FitsAsked board.value script }
     ensures { result ≡ begun board.value script }
@@ -93,32 +76,27 @@ pub(crate) fn begin(board: Box<Board>, script: Script) -> Course
     Course::new(board, script)
 }
 
-/// Writes all that a run gives out, in order: the listing, then wave and frames, then the report.
+/// Writes all that a run gives out, in order: the listing; then wave and frames, as they come; then the report.
 #[inline(never)]
-pub(crate) fn write_all<F: Out, W: Out, L: Out, R: Out>(
+pub(crate) fn write_all<F: Out, W: Out, L: Out, R: Out, P: Plays>(
     inputs: &RunInputs,
     program: &Option<Program>,
-    course: &mut Course,
+    player: &mut P,
     image: Image,
     to: &mut Writers<F, W, L, R>,
 ) -> Result<Outcome, RunFault>
-    requires due { course.old.board.state.due ≡ nothing_due }
-    requires begins { course.old.gone ≡ course.old.board.state.now.time / frame_ticks }
-    ensures played { IfOk result (λ outcome. course.new ≡ course_after course.old (way_on course.old)) }
-    ensures written { WritesRun (course_contents inputs.now program.now course.old) (writings F.took F.refused W.took W.refused
-        L.took L.refused R.took R.refused to.old to.new) result }
+    requires { P.playing.ready player.old }
+    ensures { WritesPlay (played P.playing player.old player.new) (listing_in (option_copied inputs.now.source) program.now)
+        (writings F.took F.refused W.took W.refused L.took L.refused R.took R.refused to.old to.new) result }
 {
-    let total = course.frames();
-    let time = course.board().time();
-    let steps = course.board().steps();
+    let total = player.total();
     if let Err(fault) = list(&mut to.listing, inputs.source, program) {
         return Err(RunFault::Write(Output::Listing, fault.count));
     }
-    let stop = match record_run(course, image, &mut to.frames, &mut to.wave) {
-        Ok(stop) => stop,
+    let outcome = match record_run(player, image, &mut to.frames, &mut to.wave) {
+        Ok(outcome) => outcome,
         Err(fault) => return Err(RunFault::Write(fault.output, fault.count)),
     };
-    let outcome = outcome_since(time, steps, course.board(), stop);
     match report_on(&mut to.report, outcome, total) {
         Ok(()) => Ok(outcome),
         Err(fault) => Err(RunFault::Write(Output::Report, fault.count)),

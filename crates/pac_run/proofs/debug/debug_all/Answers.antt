@@ -1,22 +1,31 @@
-use Rattle.std.proofs.Common.{refl}
+use Rattle.std.proofs.Common.{ap, refl}
 use Rattle.std.proofs.lemmas.Result.{err_from_is_err_and}
-use Rattle.pac_run.proofs.Debugged.{refused-all}
+use Rattle.pac_run.specs.declared.watch.Watching.{Watching}
 use Rattle.pac_run.specs.Run.{writing, writings}
+use Rattle.pac_run.proofs.Carried.{debugs}
+use Rattle.pac_run.proofs.Debugged.{debugged, ready-session, refused-all}
+use Rattle.pac_run.proofs.Lent.{carries-back, itself}
 use Rattle.pac_run.proofs.debug.debug_all.Goals as goal
 
-pub returns-in_err-ready : goal.returns-in_err-ready
-returns-in_err-ready g c =
+pub returns-in_err-program : goal.returns-in_err-program
+returns-in_err-program g c =
     let p = err_from_is_err_and c.from_residual.result c.from_residual.ensures.1 in
     rw (p.1, p.2)
     (refused-all c.args.inputs.now c.args.commands.now
     (writings g.F.Out.took g.F.Out.refused g.W.Out.took g.W.Out.refused g.L.Out.took g.L.Out.refused g.R.Out.took g.R.Out.refused
-    c.args.to.now (record {
-      frames = c.args.to.now.frames;
-      wave = c.args.to.now.wave;
-      listing = c.args.to.now.listing;
-      report =
-          c.args.to.now.report;
-    }))
-    (writing g.T.Out.took g.T.Out.refused c.args.text.now c.args.text.now)
-    c.in_err-ready.field-0.0 c.in_err-ready.ensures.refused
+    c.args.to.now c.args.to.now)
+    (writing g.T.Out.took g.T.Out.refused c.args.text.now c.args.text.now) c.in_err-program.field-0.0 c.in_err-program.ensures
     (record { frames = refl; wave = refl; listing = refl; report = refl }) refl)
+
+pub returns : goal.returns
+returns g c =
+    let to = writings g.F.Out.took g.F.Out.refused g.W.Out.took g.W.Out.refused g.L.Out.took g.L.Out.refused g.R.Out.took g.R.Out.refused
+    c.args.to.now c.write_all-written.new.to in
+    let ready = ready-session c.args.inputs.now c.in_ok-program.field-0 c.in_ok-session.field-0 c.in_ok-program.ensures
+    c.in_ok-session.ensures.begun in
+    debugs to to (itself to.frames) (itself to.wave) (itself to.listing) (itself to.report) _ _
+    (carries-back g.T.Out.took g.T.Out.refused _ c.write_all-written.new.player.text _ _ c.into_text.ensures (assumption))
+    c.args.inputs.now c.args.commands.now
+    c.write_all-written.result
+    (debugged c.args.inputs.now c.args.commands.now to _ c.in_ok-program.field-0.program c.in_ok-session.field-0 ready _
+    (λ same. ap (λ (it : Watching _). it.text) same) c.write_all-written.result c.write_all-written.ensures)

@@ -1,29 +1,30 @@
 use Rattle.std.proofs.Common.{◌∙◌, refl}
 use Rattle.pac_media.specs.WritesProofs.{lent_took, lent_refused}
-use Rattle.pac_board_course.specs.Stretches.{total_frames}
-use Rattle.pac_board_course.specs.Course.{way_on}
+use Rattle.pac_run.specs.declared.fault.Output.TheVariants.{Wave}
+use Rattle.pac_run.specs.Playing.{played}
+use Rattle.pac_run.specs.Recorded.{reel}
 use Rattle.pac_run.specs.Run.{writing}
-use Rattle.pac_run.proofs.Filmed.{begun, header-broke}
-use Rattle.pac_run.proofs.Lent.{records-back, wave-back}
+use Rattle.pac_run.proofs.Played.{begun, header-broke}
+use Rattle.pac_run.proofs.Lent.{breaks, carries-back, itself, records}
 use Rattle.pac_run.proofs.film.record_run.Goals as goal
 
-pub returns-in-Err-clause-texts : goal.returns-in-Err-clause-texts
-returns-in-Err-clause-texts g c =
-    let total = total_frames c.args.course.now.script in
-    let outputs = (way_on c.args.course.now).outputs in
+pub returns-in-Err : goal.returns-in-Err
+returns-in-Err g c =
+    let play = played g.P.Plays.playing c.args.player.now c.args.player.now in
     let frames = writing g.F.Out.took g.F.Out.refused c.args.frames.now c.args.frames.now in
-    let broke = header-broke frames refl (lent_took g.W.Out.took) (lent_refused g.W.Out.refused) _ c.frames.result total outputs
-    c.begin-wave.result c.flush.new.self c.in-Err.fault c.begin-wave.ensures.text c.frames.ensures.count c.in-Err.ensures.written in
-    wave-back frames g.W.Out.took g.W.Out.refused _ c.flush.new.self.file.writer _ total outputs c.in-Err.fault.count broke.0
-    _ c.into_writer.ensures (assumption)
+    let broke = header-broke play frames refl refl (lent_took g.W.Out.took) (lent_refused g.W.Out.refused) _ c.total.result
+    c.begin-wave.result c.flush.new.self c.in-Err.fault c.total.ensures.count c.begin-wave.ensures.text c.in-Err.ensures.written in
+    rw c.of_wave.ensures
+    (breaks (itself frames)
+    (carries-back g.W.Out.took g.W.Out.refused _ c.flush.new.self.file.writer _ _ c.into_writer.ensures (assumption)) play Wave
+    c.in-Err.fault.count broke)
 
-pub returns-clause-texts : goal.returns-clause-texts
-returns-clause-texts g c =
-    let total = total_frames c.args.course.now.script in
-    let ready = begun (lent_took g.F.Out.took) (lent_took g.W.Out.took) _ _ c.frames.result total c.new.result
-    c.begin-wave.result c.flush.new.self c.new.ensures c.begin-wave.ensures.text c.in_default.ensures.written
-    (c.flush.ensures.owed ∙ c.begin-wave.ensures.owed) c.frames.ensures.count in
-    records-back g.F.Out.took g.F.Out.refused g.W.Out.took g.W.Out.refused _ c.perform-recorded.new.self.frames.writer _
-    c.perform-recorded.new.self.wave.file.writer _ _ total
-    (way_on c.args.course.now).outputs c.perform-recorded.result (c.perform-recorded.ensures.film _ _ total ready)
-    _ _ c.into_writer-2.ensures c.into_writer-3.ensures (assumption) (assumption)
+pub returns : goal.returns
+returns g c =
+    let play = played g.P.Plays.playing c.args.player.now c.perform-recorded.new.player in
+    let at = reel (lent_took g.F.Out.took) (lent_refused g.F.Out.refused) (lent_took g.W.Out.took) (lent_refused g.W.Out.refused) _ _ in
+    let ready = begun at c.total.result play.frames c.new.result c.begin-wave.result c.flush.new.self c.total.ensures.count c.new.ensures
+    c.begin-wave.ensures.text c.in_default.ensures.written (c.flush.ensures.owed ∙ c.begin-wave.ensures.owed) in
+    records (carries-back g.F.Out.took g.F.Out.refused _ c.perform-recorded.new.self.frames.writer _ _ c.into_writer-2.ensures (assumption))
+    (carries-back g.W.Out.took g.W.Out.refused _ c.perform-recorded.new.self.wave.file.writer _ _ c.into_writer-3.ensures (assumption))
+    play c.perform-recorded.result (c.perform-recorded.ensures _ _ ready)

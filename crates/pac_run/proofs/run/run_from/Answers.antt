@@ -28,7 +28,7 @@ returns-in-Err g c =
     held-back-early c.args.inputs.now (option_copied c.args.from) c.in_ok-program.field-0 c.in_ok-program.ensures c.begin-course.result
     c.begin-course.ensures
     (writings g.F.Out.took g.F.Out.refused g.W.Out.took g.W.Out.refused g.L.Out.took g.L.Out.refused g.R.Out.took g.R.Out.refused
-    c.args.to.now c.write_all.new.to) c.in-Err.fault c.in-Err.ensures.written
+    c.args.to.now c.write_all.new.to) c.in-Err.fault c.write_all.new.player c.in-Err.ensures
 
 pub returns : goal.returns
 returns g c =
@@ -37,5 +37,5 @@ returns g c =
     ran-to c.args.inputs.now (option_copied c.args.from) c.in_ok-program.field-0 c.in_ok-program.ensures c.begin-course.result
     c.begin-course.ensures
     (writings g.F.Out.took g.F.Out.refused g.W.Out.took g.W.Out.refused g.L.Out.took g.L.Out.refused g.R.Out.took g.R.Out.refused
-    c.args.to.now c.write_all.new.to) c.in-Ok.outcome c.in-Ok.ensures.written c.write_all.new.course c.in-Ok.ensures.played
+    c.args.to.now c.write_all.new.to) c.in-Ok.outcome c.write_all.new.player c.in-Ok.ensures
     c.into_board-board.result.value c.into_board-board.ensures holds

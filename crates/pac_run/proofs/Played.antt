@@ -1,0 +1,158 @@
+-- What a player's run leaves of frames and wave and of the player, by its answer.
+use Rattle.std.proofs.Common.{◌≡◌, ℕ, pos, ◌*◌, List, [], ◌++◌, length, replicate, None, Some, Result, Ok, Err}
+use Rattle.std.proofs.Common.{sym, ap, subst, ◌∙◌, append_assoc, append-nil, arith}
+use Rattle.std.specs.Prelude.{IfOk}
+use Rattle.pac_media.specs.CountedLaws.{HasTaken}
+use Rattle.pac_media.specs.CountedFile.{Counted}
+use Rattle.pac_media.specs.WriteFault.{WriteFault}
+use Rattle.pac_media.specs.Writes.{StopsAfter}
+use Rattle.pac_media.proofs.Files.{Joins, stops-within}
+use Rattle.pac_media.specs.Samples.{samples_text, wav_header}
+use Rattle.pac_media.specs.Sound.{HasText, Delivers, SoundFails, FinishesSound}
+use Rattle.pac_media.specs.Sound as media
+use Rattle.pac_board_course.specs.Output.{Output}
+use Rattle.pac_board_course.specs.SinksLaws.{Giving}
+use Rattle.pac_board_course.specs.Step.{frame_samples}
+use Rattle.pac_board_course.specs.declared.outcome.Outcome.{Outcome}
+use Rattle.pac_debug.specs.declared.line.CommandFault.{CommandFault}
+use Rattle.pac_debug.specs.declared.line.CommandFault.TheVariants as faults
+use Rattle.pac_run.specs.declared.fault.OutputFault.{OutputFault}
+use Rattle.pac_run.specs.declared.fault.Output.{Output as Which}
+use Rattle.pac_run.specs.declared.fault.Output.TheVariants as which
+use Rattle.pac_run.specs.declared.fault.RunFault.TheVariants as fault
+use Rattle.pac_run.specs.declared.film.Film.{Film}
+use Rattle.pac_run.specs.Films.{film_took, film_giving}
+use Rattle.pac_run.specs.Playing.{IsBrokenOff, IsHeldUp, IsPlayed, Played, PlaysInto}
+use Rattle.pac_run.specs.Recorded.{BreaksPlay, HasBegun, RecordsPlay, Reel, WritesPlay, WritesSound, heard_by, shown_by}
+use Rattle.pac_run.specs.Run.{Writing, Writings, IsUnwritten, TakesText, writing}
+use Rattle.pac_run.specs.Texts.{images_text, sound_text, wave_file_text, wave_so_far}
+use Rattle.pac_run.proofs.Filmed.{filmed, header-long, zeros-last}
+use Rattle.pac_run.proofs.Broken.{StopsThere, sound-of, stops-among, stops-at-zeros}
+
+-- ---- the header
+
+-- it was written, and nothing else
+pub begun : {F W : Type 0} (at : Reel F W) (count total : ℕ) (file : Counted F) (old new : media.Sound W) → count ≡ total
+    → HasTaken at.took_f at.frames [] file → HasText at.took_w at.wave (wav_header (frame_samples * count)) old
+    → Delivers at.took_w old [] new → new.owed ≡ frame_samples * count
+    → HasBegun at total (record { frames = file; wave = new; fault = None })
+begun at count total file old new same fresh text done owed =
+    record {
+      images = fresh;
+      header = subst (λ (bytes : List ℕ). HasTaken at.took_w at.wave bytes new.file)
+          (append-nil (wav_header (frame_samples * count)) ∙ ap (λ (n : ℕ). wav_header (frame_samples * n)) same)
+          (done.after at.wave (wav_header (frame_samples * count)) text);
+      none_waits = done.none_waits;
+      owed = owed ∙ ap (λ (n : ℕ). frame_samples * n) same;
+    }
+
+-- the wave's writer refused within it, and nothing was played
+pub header-broke : {F W : Type 0} (play : Played) (frames : Writing F) → IsUnwritten frames → play.unplayed
+    → (took : W → List ℕ → W → Type 0) (refused : W → W → Type 0) (wave : W) (count : ℕ) (old new : media.Sound W) (fault : WriteFault)
+    → count ≡ play.frames → HasText took wave (wav_header (frame_samples * count)) old → SoundFails took refused old [] fault new
+    → BreaksPlay play frames (writing took refused wave new.file.writer) which.Wave fault.count
+header-broke play frames still unplayed took refused wave count old new fault same text fails =
+    let stop = fails.after wave (wav_header (frame_samples * count)) text in
+    let less = stop.stopped.some_left in
+    let long = ap length (append-nil (wav_header (frame_samples * count))) ∙ header-long (frame_samples * count) in
+    let sound = sound_text (frame_samples * play.frames) play.gives in
+    let whole : (wav_header (frame_samples * count) ++ []) ++ sound ≡ wave_file_text play.frames play.gives =
+    ap (λ head. head ++ sound) (append-nil (wav_header (frame_samples * count)))
+    ∙ ap (λ (n : ℕ). wav_header (frame_samples * n) ++ sound) same in
+    record {
+      film = record {
+        sound = record {
+          taken = stop.taken;
+          stopped = subst (λ (text : List ℕ). StopsAfter took refused wave text stop.taken new.file.writer) whole
+              (stops-within stop.stopped sound);
+          count_is = fails.told ∙ stop.count_is;
+        };
+        header_first = λ few. still;
+        images = λ enough. absurd (omega (arith, enough, less, long));
+      };
+      header_first = λ few. unplayed;
+      past = λ enough. absurd (omega (arith, enough, less, long));
+    }
+
+-- ---- what was played
+
+module _ {F W : Type 0} (at : Reel F W) (play : Played) (old : Film F W) (begins : HasBegun at play.frames old) where
+  breaks : (taken left : List Output) (new : Film F W) (output : Which) (count : ℕ) → taken ++ left ≡ play.gives → play.told taken
+      → StopsThere at play.frames play.gives taken new output count → BreaksPlay play (shown_by at new) (heard_by at new) output count
+  breaks taken left new which.Frames count all told (stop, shown) = (stop, subst play.told (sym shown) told)
+  breaks taken left new which.Wave count all told (stop, past, heard) = record {
+    film = stop;
+    header_first = λ few. absurd (omega (arith, few, past));
+    past = λ enough. record {
+      waiting = heard.waiting;
+      among = (left, ap (λ given. given ++ left) (sym heard.parts) ∙ all);
+      no_picture = heard.no_picture;
+      told = subst play.told heard.parts told;
+    };
+  }
+  breaks taken left new which.Listing count all told none = none
+  breaks taken left new which.Report count all told none = none
+  breaks taken left new which.State count all told none = none
+  breaks taken left new which.Text count all told none = absurd none
+
+  -- up to a refusal of the sink
+  pub held-up : Joins at.took_f → (mid : Film F W) (fault : OutputFault)
+      → IsHeldUp (film_giving at.took_f at.refused_f at.took_w at.refused_w) play old mid → Some fault ≡ mid.fault
+      → BreaksPlay play (shown_by at mid) (heard_by at mid) fault.output fault.count
+  held-up joined mid fault held kept =
+      breaks held.cut.taken (held.left ++ held.among.0) mid fault.output fault.count
+      (sym (append_assoc held.cut.taken held.left held.among.0) ∙ held.among.1) held.told
+      (stops-among at play.frames joined play.gives old mid fault begins held.cut held.among kept)
+
+  -- to its end, and the zeros were written or refused
+  pub ended : (outcome : Outcome) (mid new : Film F W) → IsPlayed (film_took at.took_f at.took_w) play old outcome mid
+      → new.frames ≡ mid.frames → (answer : Result Outcome OutputFault) → IfOk answer (λ it. it ≡ outcome)
+      → WritesSound at.took_w at.refused_w mid (samples_text (replicate mid.wave.owed (pos 0))) answer new
+      → RecordsPlay play (shown_by at new) (heard_by at new) answer
+  ended outcome mid new given same (Ok came) is done =
+      let has = filmed at play.frames play.gives begins given.sink in
+      record {
+        images = subst (λ (file : Counted F). at.took_f at.frames (images_text play.gives) file.writer) (sym same) has.images.written;
+        sound = subst (λ (bytes : List ℕ). at.took_w at.wave bytes new.wave.file.writer) (zeros-last at play.frames play.gives mid has)
+            (done.after at.wave (wave_so_far play.frames play.gives) has.sound).written;
+        done = subst play.done (sym is) given.done;
+      }
+  ended outcome mid new given same (Err fault) is broke =
+      subst (λ (it : OutputFault). BreaksPlay play (shown_by at new) (heard_by at new) it.output it.count) (sym broke.fault_is)
+      (breaks play.gives [] new which.Wave broke.told.count (append-nil play.gives) given.told
+      (stops-at-zeros at play.frames play.gives mid new broke.told (filmed at play.frames play.gives begins given.sink) broke.wave same))
+
+  -- up to a text that was refused, and what waited was written or refused
+  pub broke-off : (mid new : Film F W) (count : ℕ) → IsBrokenOff (film_took at.took_f at.took_w) play old count mid
+      → new.frames ≡ mid.frames → (answer : Result (Unit {0}) WriteFault) → FinishesSound at.took_w at.refused_w mid.wave [] answer new.wave
+      → BreaksPlay play (shown_by at new) (heard_by at new) which.Text count
+  broke-off mid new count off same answer written =
+      let has = filmed at play.frames off.taken begins off.sink in
+      record {
+        taken = off.taken;
+        among = off.among;
+        untold = off.untold;
+        images = subst (λ (file : Counted F). at.took_f at.frames (images_text off.taken) file.writer) (sym same) has.images.written;
+        sound = sound-of at play.frames off.taken mid new.wave has answer written;
+      }
+
+-- what was played, by the fault that there was
+module _ {S : Type 0} (to : Giving S) (play : Played) (old new : S) (answer : Result Outcome CommandFault) (fault : CommandFault)
+    (is : answer ≡ Err fault) (given : PlaysInto to play old answer new) where
+  pub at-refusal : fault ≡ faults.Refused → IsHeldUp to play old new
+  at-refusal here = subst (λ answer. PlaysInto to play old answer new) (is ∙ ap (λ it. Err it) here) given
+
+  pub at-text : (why : WriteFault) → fault ≡ faults.Text why → IsBrokenOff to.took play old why.count new
+  at-text why here = subst (λ answer. PlaysInto to play old answer new) (is ∙ ap (λ it. Err it) here) given
+
+-- ---- listing and report, too
+
+pub broke : {F W L R : Type 0} (play : Played) (listing : List ℕ) (to : Writings F W L R) (output : Which) (count : ℕ)
+    → TakesText to.listing listing → BreaksPlay play to.frames to.wave output count → IsUnwritten to.report
+    → WritesPlay play listing to (Err (fault.Write output count))
+broke play listing to which.Listing count listed it still = absurd it
+broke play listing to which.Report count listed it still = absurd it
+broke play listing to which.Frames count listed it still = record { listing = listed; film = it; report = still }
+broke play listing to which.Wave count listed it still = record { listing = listed; film = it; report = still }
+broke play listing to which.State count listed it still = record { listing = listed; film = it; report = still }
+broke play listing to which.Text count listed it still = record { listing = listed; film = it; report = still }

@@ -1,0 +1,15 @@
+use Rattle.std.specs.Str.Lines.{lines}
+use Rattle.pac_board_course.specs.SinksLaws.{by}
+use Rattle.pac_media.specs.WritesProofs.{lent_took, lent_refused}
+use Rattle.pac_run.proofs.Lent.{carries-back}
+use Rattle.pac_run.proofs.Watching.{plays}
+use Rattle.pac_run.proofs.watch.watch_new.Goals as goal
+
+pub returns : goal.returns
+returns g c =
+    plays (by g.S.Sink.took g.S.Sink.refused) (lent_took g.T.Out.took) (lent_refused g.T.Out.refused) (lines c.args.commands.now)
+    (record { session = c.args.session; sink = c.args.sink.now; text = c.new-words.result })
+    (record { session = c.watch-watched.ensures.left; sink = c.watch-watched.new.sink; text = c.watch-watched.new.text })
+    c.requires _ c.new-words.ensures _
+    (carries-back g.T.Out.took g.T.Out.refused _ c.watch-watched.new.text.writer _ _ c.into_writer.ensures (assumption)) _
+    c.watch-watched.result c.watch-watched.ensures.watched
