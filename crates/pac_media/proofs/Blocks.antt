@@ -128,39 +128,39 @@ put-long at part xs ys fits long =
 
 -- a block of a line drawn again and kept
 pub block-drawn : (palette : List (List ℕ)) (numbers pixels kept block piece : List ℕ) (start part size : ℕ) → length numbers ≡ 288 →
-    length kept ≡ 288 → start + 8 ≤ 288 → part ≡ 24 → size ≡ 8 →
-    IsDrawnTo palette start numbers pixels kept → block ≡ take 8 (drop start numbers) → piece ≡ flat_map (palette_colour palette) block →
-    IsDrawnTo palette (start + 8) numbers (put_mid (3 * start) part pixels piece) (put_mid start size kept block)
+    length kept ≡ 288 → start + 16 ≤ 288 → part ≡ 48 → size ≡ 16 →
+    IsDrawnTo palette start numbers pixels kept → block ≡ take 16 (drop start numbers) → piece ≡ flat_map (palette_colour palette) block →
+    IsDrawnTo palette (start + 16) numbers (put_mid (3 * start) part pixels piece) (put_mid start size kept block)
 block-drawn palette numbers pixels kept block piece start part size long same inside is_part is_size was is coloured =
     let f : ℕ → List ℕ = palette_colour palette in
-    let eight : length block ≡ 8 =
-    ap length is ∙ length-take-le 8 (drop start numbers) (omega (arith, length-drop start numbers, long, inside)) in
-    let threes : part ≡ 3 * 8 = omega (arith, is_part) in
-    let within : start + 8 ≤ length kept = omega (arith, same, inside) in
+    let whole : length block ≡ 16 =
+    ap length is ∙ length-take-le 16 (drop start numbers) (omega (arith, length-drop start numbers, long, inside)) in
+    let threes : part ≡ 3 * 16 = omega (arith, is_part) in
+    let within : start + 16 ≤ length kept = omega (arith, same, inside) in
     let fits : start ≤ length kept = omega (arith, within) in
-    let stop : start + 8 ≡ start + length block = omega (arith, eight) in
+    let stop : start + 16 ≡ start + length block = omega (arith, whole) in
     let block_below : AreNumbers block =
-    subst AreNumbers (sym is) (numbers-take 8 (drop start numbers) (numbers-drop start numbers was.new)) in
+    subst AreNumbers (sym is) (numbers-take 16 (drop start numbers) (numbers-drop start numbers was.new)) in
     let wide : length piece ≡ part =
-    ap length coloured ∙ (length-pieces f 3 0 block (line-pieces palette block was.colours block_below) ∙ omega (arith, eight, is_part)) in
+    ap length coloured ∙ (length-pieces f 3 0 block (line-pieces palette block was.colours block_below) ∙ omega (arith, whole, is_part)) in
     let room : 3 * start + part ≤ length pixels = omega (arith, inside, is_part, was.size) in
-    let put : put_mid start size kept block ≡ put_mid start 8 kept block = ap (λ n. put_mid start n kept block) is_size in
+    let put : put_mid start size kept block ≡ put_mid start 16 kept block = ap (λ n. put_mid start n kept block) is_size in
     record {
       colours = was.colours;
       size = put-long (3 * start) part pixels piece room wide ∙ was.size;
       new = was.new;
       below = subst AreNumbers (sym put)
-          (numbers-append (take start kept) (block ++ drop 8 (drop start kept)) (numbers-take start kept was.below)
-          (numbers-append block (drop 8 (drop start kept)) block_below
-          (numbers-drop 8 (drop start kept) (numbers-drop start kept was.below))));
+          (numbers-append (take start kept) (block ++ drop 16 (drop start kept)) (numbers-take start kept was.below)
+          (numbers-append block (drop 16 (drop start kept)) block_below
+          (numbers-drop 16 (drop start kept) (numbers-drop start kept was.below))));
       drawn = ap (λ n. put_mid (3 * start) n pixels piece) threes
-          ∙ (ap (λ (all : List ℕ). put_mid (3 * start) (3 * 8) all piece) was.drawn
-          ∙ (ap (λ (one : List ℕ). put_mid (3 * start) (3 * 8) (flat_map f kept) one) coloured
-          ∙ (put-pieces f 3 0 kept block start 8 (line-pieces palette kept was.colours was.below) within ∙ ap (flat_map f) (sym put))));
-      same = ap (take (start + 8)) put
-          ∙ (take-put_mid start 8 kept block (start + 8) stop fits
+          ∙ (ap (λ (all : List ℕ). put_mid (3 * start) (3 * 16) all piece) was.drawn
+          ∙ (ap (λ (one : List ℕ). put_mid (3 * start) (3 * 16) (flat_map f kept) one) coloured
+          ∙ (put-pieces f 3 0 kept block start 16 (line-pieces palette kept was.colours was.below) within ∙ ap (flat_map f) (sym put))));
+      same = ap (take (start + 16)) put
+          ∙ (take-put_mid start 16 kept block (start + 16) stop fits
           ∙ (ap (λ front. front ++ block) was.same
-          ∙ (ap (λ back. take start numbers ++ back) is ∙ sym (take-more start 8 numbers))));
+          ∙ (ap (λ back. take start numbers ++ back) is ∙ sym (take-more start 16 numbers))));
     }
 
 -- a part of a line that is the same
@@ -356,18 +356,18 @@ line-more palette lines image numbers y inside read drawn =
 
 -- a block's pixels appended to those of the blocks before it
 pub part-more : (f : ℕ → List ℕ) (numbers image new start pixels : List ℕ) (count stop : ℕ) → new ≡ image ++ pixels →
-    stop ≡ 8 → pixels ≡ flat_map f (take stop (drop (8 * count) numbers)) → image ≡ start ++ flat_map f (take (8 * count) numbers) →
-    new ≡ start ++ flat_map f (take (8 * (count + 1)) numbers)
+    stop ≡ 16 → pixels ≡ flat_map f (take stop (drop (16 * count) numbers)) → image ≡ start ++ flat_map f (take (16 * count) numbers) →
+    new ≡ start ++ flat_map f (take (16 * (count + 1)) numbers)
 part-more f numbers image new start pixels count stop appended is coloured drawn =
-    let next : 8 * (count + 1) ≡ 8 * count + 8 = omega arith in
-    let before = take (8 * count) numbers in
-    let block = take 8 (drop (8 * count) numbers) in
+    let next : 16 * (count + 1) ≡ 16 * count + 16 = omega arith in
+    let before = take (16 * count) numbers in
+    let block = take 16 (drop (16 * count) numbers) in
     appended
     ∙ (ap (λ all. all ++ pixels) drawn
-    ∙ (ap (λ (last : List ℕ). (start ++ flat_map f before) ++ last) (coloured ∙ ap (λ n. flat_map f (take n (drop (8 * count) numbers))) is)
+    ∙ (ap (λ (last : List ℕ). (start ++ flat_map f before) ++ last) (coloured ∙ ap (λ n. flat_map f (take n (drop (16 * count) numbers))) is)
     ∙ (append_assoc start (flat_map f before) (flat_map f block)
     ∙ ap (λ all. start ++ all)
-    (sym (flat_map-append f before block) ∙ ap (flat_map f) (sym (ap (λ n. take n numbers) next ∙ take-more (8 * count) 8 numbers))))))
+    (sym (flat_map-append f before block) ∙ ap (flat_map f) (sym (ap (λ n. take n numbers) next ∙ take-more (16 * count) 16 numbers))))))
 
 -- one line more is kept
 pub lines-step : (kept new lines : List (List ℕ)) (numbers : List ℕ) (y : ℕ) → length kept ≡ 224 → y < 224 → new ≡ set kept y numbers →

@@ -1,80 +1,108 @@
--- The pixels of colour numbers, two at a time.
-use Rattle.std.proofs.Common.{◌≡◌, ◌≢◌, ℕ, ◌+◌, ◌*◌, ◌/◌, ◌%◌, ◌<◌, ◌≤◌, List, [], ◌∷◌, ◌++◌, length, take, get_or, set, slice_index}
-use Rattle.std.proofs.Common.{refl, sym, ap, ◌∙◌, arith, append_assoc, below_more, get_or-set_other, get_or-set_same}
-use Rattle.std.proofs.Math.Seq.{take-append-add}
-use Rattle.std.proofs.lemmas.List.{take_all, take_more, take-take, length-take-le, flat_map_more}
-use Rattle.std.proofs.lemmas.Slice.{take-put_mid}
-use borrow.Rule.Slice.PartMut.{put_mid}
-use Rattle.std.specs.List.{flat_map}
+-- What colour numbers pick of a vector, vectors that are woven, and the pixels that come of both.
+use Rattle.std.proofs.Common.{◌≡◌, ◌≢◌, ◌<◌, ◌≤◌, ◌+◌, ◌*◌, ◌/◌, ◌++◌, ℕ, suc, List, [], ◌∷◌}
+use Rattle.std.proofs.Common.{length, get_or, set, map, take, slice_index, refl, sym, ap, ◌∙◌}
+use Rattle.std.proofs.Common.{append_assoc, below_more, get_or-set_other, get_or-set_same, w8, arith}
+use Rattle.std.specs.List.{flat_map, range_with_len}
+use Rattle.std.proofs.lemmas.List.{get_or-map, length-map, ext_get_or, take_all}
+use Rattle.std.proofs.lemmas.Simd.{Each1-from_get_or, SwzOk, SwzOk-from_below, swz_l, length-swz_l, get_or-swz_l_below, pick_l_whole}
+use lib.Lanes.{pick_l}
 use Rattle.pac_media.specs.Images.{palette_colour}
-use Rattle.pac_media.specs.Drawn.{ArePairs}
+use Rattle.pac_media.specs.Drawn.{AreChannels, woven}
 
--- one pair more
-pub pair-step : (pairs : List (List ℕ)) (value : ℕ → List ℕ) (place : ℕ) (next : List ℕ) →
-    place < length pairs → take 6 next ≡ value place →
-    ((k : ℕ) → k < place → take 6 (get_or pairs k []) ≡ value k) →
-    (k : ℕ) → k < place + 1 → take 6 (get_or (set pairs place next) k []) ≡ value k
-pair-step pairs value place next inside is so_far =
+-- ---- what is picked
+
+pub picks : (numbers : List ℕ) → length numbers ≡ 16 → ((k : ℕ) → k < 16 → slice_index numbers k < 16) → SwzOk w8 16 16 0 numbers
+picks numbers long below =
+    SwzOk-from_below w8 16 1 16 0 numbers refl (omega (arith, long))
+    (Each1-from_get_or (λ number. number < 16) numbers 0 (λ k inside. below k (omega (arith, long, inside))))
+
+pub picked-is : (channel numbers : List ℕ) → length numbers ≡ 16 → ((k : ℕ) → k < 16 → slice_index numbers k < 16)
+    → swz_l w8 16 channel 0 numbers ≡ map (λ number. slice_index channel number) numbers
+picked-is channel numbers long below =
+    ext_get_or 0 _ _ (length-swz_l w8 16 channel 0 numbers ∙ sym (length-map numbers (λ number. slice_index channel number))) (λ k inside.
+    let within : k < length numbers = omega (arith, length-swz_l w8 16 channel 0 numbers, inside) in
+    let small : k < 16 = omega (arith, within, long) in
+    let row : 16 * ((0 + k) / 16) ≡ 0 = omega (arith, small) in
+    get_or-swz_l_below w8 16 channel 0 numbers k within (below k small)
+    ∙ (ap (λ place. get_or channel place 0) (omega (arith, row))
+    ∙ sym (get_or-map (λ number. slice_index channel number) numbers k 0 0 within)))
+
+-- ---- what is woven: red and green lane by lane, in halves, and blue between them
+
+abbrev left : List ℕ → List ℕ → List ℕ
+left xs ys = pick_l 0 (xs ++ ys) (0 ∷ 16 ∷ 1 ∷ 17 ∷ 2 ∷ 18 ∷ 3 ∷ 19 ∷ 4 ∷ 20 ∷ 5 ∷ 21 ∷ 6 ∷ 22 ∷ 7 ∷ 23 ∷ [])
+
+abbrev right : List ℕ → List ℕ → List ℕ
+right xs ys = pick_l 0 (xs ++ ys) (8 ∷ 24 ∷ 9 ∷ 25 ∷ 10 ∷ 26 ∷ 11 ∷ 27 ∷ 12 ∷ 28 ∷ 13 ∷ 29 ∷ 14 ∷ 30 ∷ 15 ∷ 31 ∷ [])
+
+abbrev middle : List ℕ → List ℕ → List ℕ
+middle xs ys =
+    pick_l 0 (left xs ys ++ right xs ys) (8 ∷ 9 ∷ 10 ∷ 11 ∷ 12 ∷ 13 ∷ 14 ∷ 15 ∷ 16 ∷ 17 ∷ 18 ∷ 19 ∷ 20 ∷ 21 ∷ 22 ∷ 23 ∷ [])
+
+abbrev by_parts : (reds greens blues : List ℕ) → List ℕ
+by_parts reds greens blues =
+    pick_l 0 (left reds greens ++ blues) (0 ∷ 1 ∷ 16 ∷ 2 ∷ 3 ∷ 17 ∷ 4 ∷ 5 ∷ 18 ∷ 6 ∷ 7 ∷ 19 ∷ 8 ∷ 9 ∷ 20 ∷ 10 ∷ [])
+    ++ (pick_l 0 (middle reds greens ++ blues) (3 ∷ 21 ∷ 4 ∷ 5 ∷ 22 ∷ 6 ∷ 7 ∷ 23 ∷ 8 ∷ 9 ∷ 24 ∷ 10 ∷ 11 ∷ 25 ∷ 12 ∷ 13 ∷ [])
+    ++ pick_l 0 (right reds greens ++ blues) (26 ∷ 6 ∷ 7 ∷ 27 ∷ 8 ∷ 9 ∷ 28 ∷ 10 ∷ 11 ∷ 29 ∷ 12 ∷ 13 ∷ 30 ∷ 14 ∷ 15 ∷ 31 ∷ []))
+
+-- the sixteen lanes of a vector, one by one
+abbrev lanes : List ℕ → List ℕ
+lanes xs = pick_l 0 xs (range_with_len 0 16)
+
+lanes-woven : (reds greens blues : List ℕ)
+    → by_parts (lanes reds) (lanes greens) (lanes blues) ≡ woven (lanes reds) (lanes greens) (lanes blues)
+lanes-woven reds greens blues = refl
+
+pub woven-by-parts : (reds greens blues : List ℕ) → length reds ≡ 16 → length greens ≡ 16 → length blues ≡ 16
+    → by_parts reds greens blues ≡ woven reds greens blues
+woven-by-parts reds greens blues red_long green_long blue_long =
+    rw (sym (pick_l_whole 0 reds 16 red_long), sym (pick_l_whole 0 greens 16 green_long), sym (pick_l_whole 0 blues 16 blue_long))
+    (lanes-woven reds greens blues)
+
+-- ---- what is picked and woven: pixels
+
+pub woven-pixels : (colours : List (List ℕ)) (reds greens blues numbers : List ℕ) → AreChannels colours reds greens blues
+    → ((k : ℕ) → k < length numbers → get_or numbers k 0 < 16)
+    → woven (map (λ number. slice_index reds number) numbers) (map (λ number. slice_index greens number) numbers)
+    (map (λ number. slice_index blues number) numbers)
+    ≡ flat_map (palette_colour colours) numbers
+woven-pixels colours reds greens blues [] made below = refl
+woven-pixels colours reds greens blues (number ∷ numbers) made below =
+    let colour = made number (below 0 (omega arith)) in
+    let more = woven-pixels colours reds greens blues numbers made (λ k inside. below (suc k) (omega (arith, inside))) in
+    rw (colour, more) refl
+
+-- three parts that follow one another and are all
+pub three-parts : (old one two three a b c : List ℕ) → take (0 + 16) one ≡ take 0 old ++ a
+    → take (16 + 16) two ≡ take 16 one ++ b → take (32 + 16) three ≡ take 32 two ++ c → length three ≡ 48
+    → three ≡ a ++ (b ++ c)
+three-parts old one two three a b c first second third long =
+    let whole : length three ≤ 48 = omega (arith, long) in
+    sym (take_all 48 three whole)
+    ∙ (third
+    ∙ (ap (λ part. part ++ c) (second ∙ ap (λ part. part ++ b) first)
+    ∙ append_assoc a b c))
+
+-- one colour more in its channels
+pub colour-step : (colours : List (List ℕ)) (reds greens blues : List ℕ) (number red green blue : ℕ)
+    → length reds ≡ 16 → length greens ≡ 16 → length blues ≡ 16 → number < 16 → get_or colours number [] ≡ red ∷ green ∷ blue ∷ []
+    → ((k : ℕ) → k < number → get_or colours k [] ≡ get_or reds k 0 ∷ get_or greens k 0 ∷ get_or blues k 0 ∷ [])
+    → (k : ℕ) → k < number + 1
+    → get_or colours k [] ≡ get_or (set reds number red) k 0 ∷ get_or (set greens number green) k 0 ∷ get_or (set blues number blue) k 0 ∷ []
+colour-step colours reds greens blues number red green blue red_long green_long blue_long below is so_far =
     below_more _ _
-    (λ k before. let apart : k ≢ place = omega arith in rw get_or-set_other (so_far k before))
-    (rw get_or-set_same is)
-
--- the pixels of a pair
-pub pair-pixels : (palette colours pairs lent : List (List ℕ)) (pair : List ℕ) (left right : ℕ) →
-    colours ≡ palette → ArePairs colours pairs → lent ≡ pairs → pair ≡ get_or lent (16 * left + right) [] → left < 16 → right < 16 →
-    take 6 pair ≡ palette_colour palette left ++ palette_colour palette right
-pair-pixels palette colours pairs lent pair left right seen made same read is_left is_right =
-    let place : 16 * left + right < 256 = omega (arith, is_left, is_right) in
-    let quotient : (16 * left + right) / 16 ≡ left = omega (arith, is_right) in
-    let remainder : (16 * left + right) % 16 ≡ right = omega (arith, is_right) in
-    ap (take 6) (read ∙ ap (λ table. get_or table (16 * left + right) []) same)
-    ∙ (made (16 * left + right) place
-    ∙ (rw (quotient, remainder) refl ∙ ap (λ all. palette_colour all left ++ palette_colour all right) seen))
-
--- two numbers more
-two-more : (f : ℕ → List ℕ) (numbers : List ℕ) (count : ℕ) → 2 * count + 2 ≤ length numbers →
-    flat_map f (take (2 * (count + 1)) numbers)
-    ≡ flat_map f (take (2 * count) numbers) ++ (f (slice_index numbers (2 * count)) ++ f (slice_index numbers (2 * count + 1)))
-two-more f numbers count inside =
-    let first : 2 * count < length numbers = omega (arith, inside) in
-    let second : 2 * count + 1 < length numbers = omega (arith, inside) in
-    let both : 2 * (count + 1) ≡ 2 * count + 1 + 1 = omega arith in
-    let before = take (2 * count) numbers in
-    let left = slice_index numbers (2 * count) in
-    let right = slice_index numbers (2 * count + 1) in
-    rw (both, take_more numbers (2 * count + 1) 0 second, take_more numbers (2 * count) 0 first)
-    (sym (flat_map_more f [] (before ++ left ∷ []) right)
-    ∙ (ap (λ all. all ++ f right) (sym (flat_map_more f [] before left)) ∙ append_assoc (flat_map f before) (f left) (f right)))
-
--- the pixels of two numbers more; what is written after them doesn't count
-pub pixels-step : (f : ℕ → List ℕ) (numbers out piece : List ℕ) (k part : ℕ) →
-    take 6 piece ≡ f (slice_index numbers (2 * k)) ++ f (slice_index numbers (2 * k + 1)) → 6 ≤ length piece →
-    6 * k ≤ length out → 2 * k + 2 ≤ length numbers →
-    take (6 * k) out ≡ flat_map f (take (2 * k) numbers) →
-    take (6 * (k + 1)) (put_mid (6 * k) part out piece) ≡ flat_map f (take (2 * (k + 1)) numbers)
-pixels-step f numbers out piece k part is long fits inside so_far =
-    let before : length (take (6 * k) out) ≡ 6 * k = length-take-le (6 * k) out fits in
-    let sum : 6 * (k + 1) ≡ length (take (6 * k) out) + 6 = omega (arith, before) in
-    let new = put_mid (6 * k) part out piece in
-    let first = ap (take (6 * (k + 1))) (take-put_mid (6 * k) part out piece (6 * k + length piece) refl fits) in
-    let second : take (6 * (k + 1)) (take (6 * k) out ++ piece) ≡ take (6 * k) out ++ take 6 piece =
-    rw sum (take-append-add (take (6 * k) out) piece 6) in
-    let third = ap (λ start. start ++ take 6 piece) so_far in
-    let fourth = ap (λ two. flat_map f (take (2 * k) numbers) ++ two) is in
-    sym (take-take (6 * (k + 1)) (6 * k + length piece) new (omega (arith, long)))
-    ∙ (first ∙ (second ∙ (third ∙ (fourth ∙ sym (two-more f numbers k inside)))))
-
--- the pixels of the last two of eight numbers
-pub all-pixels : (f : ℕ → List ℕ) (numbers out piece pair : List ℕ) (part : ℕ) → length numbers ≡ 8 → length out ≡ 24 → length pair ≡ 8 →
-    piece ≡ take 6 pair → take 6 pair ≡ f (slice_index numbers 6) ++ f (slice_index numbers 7) →
-    take 18 out ≡ flat_map f (take 6 numbers) → length (put_mid 18 part out piece) ≡ 24 →
-    put_mid 18 part out piece ≡ flat_map f numbers
-all-pixels f numbers out piece pair part eight long wide is made so_far whole =
-    let six : length piece ≡ 6 = ap length is ∙ length-take-le 6 pair (omega (arith, wide)) in
-    let short : length piece ≤ 6 = omega (arith, six) in
-    let last = pixels-step f numbers out piece 3 part (take_all 6 piece short ∙ (is ∙ made)) (omega (arith, six)) (omega (arith, long))
-    (omega (arith, eight)) so_far in
-    let new = put_mid 18 part out piece in
-    let within : length new ≤ 24 = omega (arith, whole) in
-    let both : length numbers ≤ 8 = omega (arith, eight) in
-    sym (take_all 24 new within) ∙ (last ∙ ap (flat_map f) (take_all 8 numbers both))
+    (λ k before.
+    let apart : k ≢ number = omega arith in
+    rw (
+      get_or-set_other reds number k red 0 apart,
+      get_or-set_other greens number k green 0 apart,
+      get_or-set_other blues number k blue 0 apart,
+    ) (so_far k before))
+    (let in_reds : number < length reds = omega arith in
+    let in_greens : number < length greens = omega arith in
+    let in_blues : number < length blues = omega arith in
+    rw (
+      get_or-set_same reds number red 0 in_reds,
+      get_or-set_same greens number green 0 in_greens,
+      get_or-set_same blues number blue 0 in_blues,
+    ) is)

@@ -11,7 +11,7 @@ ghost use Rattle.pac_media.specs.Images.{palette_colour, ppm_of};
 ghost use Rattle.pac_picture.specs.State.{IsPicture, black};
 ghost use Rattle.pac_media.specs.Drawn.{AreColours, IsImageOf, IsDrawnTo};
 
-use crate::palette::{Palette, word};
+use crate::palette::{LANES, PIXELS, Palette, word};
 use pac_picture::{HEIGHT, Lines, Picture, WIDTH};
 use std::alloc::{AllocError, Global};
 use std::marker::Model;
@@ -25,8 +25,8 @@ const LINE: usize = 3 * WIDTH;
 /// The bytes of an image.
 const SIZE: usize = HEADER + HEIGHT as usize * LINE;
 
-/// The blocks of a line, of eight pixels each.
-const BLOCKS: usize = WIDTH / 8;
+/// The blocks of a line, which are drawn at once.
+const BLOCKS: usize = WIDTH / LANES;
 
 /// The parts of a line, of 32 pixels each, which are compared at once.
 const PARTS: usize = WIDTH / 32;
@@ -42,9 +42,9 @@ fn append_line(image: &mut Vec<u8>, palette: &Palette, numbers: &Numbers)
     ensures len { vec_len image.new ≡ vec_len image.old + 3 * tile.width }
     ensures room { vec_capacity image.old ≤ vec_capacity image.new }
 {
-    let mut pixels = [0; 24];
+    let mut pixels = [0; PIXELS];
     for block in 0..BLOCKS {
-        palette.colour(&numbers[8 * block..8 * block + 8], &mut pixels);
+        palette.colour(&numbers[LANES * block..LANES * block + LANES], &mut pixels);
         image.extend_from_slice(&pixels).unwrap();
     }
 }
@@ -102,7 +102,7 @@ fn are_same(one: &Numbers, other: &Numbers, start: usize) -> bool
     first | second | third | fourth == 0
 }
 
-/// Draws eight pixels of a line again where their numbers changed, and keeps these.
+/// Draws a block of a line again, and keeps its numbers.
 #[inline]
 fn redraw_block(
     pixels: &mut [u8],
@@ -111,19 +111,17 @@ fn redraw_block(
     numbers: &Numbers,
     start: usize,
 )
-    requires start { start + 8 ≤ tile.width }
+    requires start { start + 16 ≤ tile.width }
     requires drawn { IsDrawnTo palette.now start numbers.now pixels.old kept.old }
-    ensures { IsDrawnTo palette.now (start + 8) numbers.now pixels.new kept.new }
+    ensures { IsDrawnTo palette.now (start + 16) numbers.now pixels.new kept.new }
 {
-    if word_at(numbers, start) != word_at(kept, start) {
-        let block = &numbers[start..start + 8];
-        palette.colour(block, &mut pixels[3 * start..3 * start + 24]);
-        kept[start..start + 8].copy_from_slice(block);
-    }
+    let block = &numbers[start..start + LANES];
+    palette.colour(block, &mut pixels[3 * start..3 * start + PIXELS]);
+    kept[start..start + LANES].copy_from_slice(block);
 }
 
-/// Draws those of 32 pixels of a line again whose numbers changed. A call of its own, which most pixels don't need, so that
-/// the loop over a line stays short.
+/// Draws both blocks of a part of a line again. A call of its own, which most parts don't need, so that the loop over a line stays
+/// short.
 #[inline(never)]
 fn redraw_blocks(
     pixels: &mut [u8],
@@ -136,9 +134,8 @@ fn redraw_blocks(
     requires drawn { IsDrawnTo palette.now start numbers.now pixels.old kept.old }
     ensures { IsDrawnTo palette.now (start + 32) numbers.now pixels.new kept.new }
 {
-    for block in 0..4usize {
-        redraw_block(pixels, kept, palette, numbers, start + 8 * block);
-    }
+    redraw_block(pixels, kept, palette, numbers, start);
+    redraw_block(pixels, kept, palette, numbers, start + LANES);
 }
 
 /// Draws 32 pixels of a line again where some of their numbers changed.

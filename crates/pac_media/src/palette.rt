@@ -1,36 +1,60 @@
 //! A palette, and the pixels of colour numbers in it.
 
-ghost use Rattle.std.specs.Prelude.{◌≡◌, ◌<◌, ◌+◌, ◌*◌, ◌↔◌, ◌++◌, IsTrue, IfOk, [], length, replicate, slice_index, slice_index_or, take, EachIndex};
+ghost use Rattle.std.specs.Prelude.{◌≡◌, ◌<◌, ◌≤◌, ◌+◌, ◌↔◌, ◌++◌, ℕ, IsTrue, IfOk, length, map, replicate, slice_index, take, EachIndex};
 ghost use Rattle.std.specs.Int.{w64, to_le_bytes};
 ghost use Rattle.std.specs.List.{flat_map};
 ghost use Rattle.pac_colour.specs.Colours.{numbers as colour_numbers};
 ghost use Rattle.pac_media.specs.Images.{palette_colour};
-ghost use Rattle.pac_media.specs.Drawn.{ArePairs, ArePlacesOfPairs};
+ghost use Rattle.pac_media.specs.Drawn.{AreChannels, woven};
 
 use std::alloc::{AllocError, Global};
 use std::marker::Model;
+use std::simd::prelude::*;
 
-/// The bytes of two pixels side by side, and two bytes more, so that a pair is copied in one move.
-type TwoPixels = [u8; 8];
+/// The lanes of pixels 4 to 11, red and green in turns, of both halves.
+const MIDDLE: [usize; LANES] = [8, 9, 10, 11, 12, 13, 14, 15, 16, 17, 18, 19, 20, 21, 22, 23];
 
-/// Two pixels side by side.
-#[inline]
-fn side_by_side(left: [u8; 3], right: [u8; 3]) -> TwoPixels
-    ensures { take 6 result ≡ left ++ right }
-{
-    let [red, green, blue] = left;
-    let [next_red, next_green, next_blue] = right;
-    [red, green, blue, next_red, next_green, next_blue, 0, 0]
+/// Red, green and blue in turns: of two of these that have red and green in turns, and of blue, whose lanes count from 16 on.
+const FIRST: [usize; LANES] = [0, 1, 16, 2, 3, 17, 4, 5, 18, 6, 7, 19, 8, 9, 20, 10];
+
+/// The same, from the green of pixel 5 on.
+const SECOND: [usize; LANES] = [3, 21, 4, 5, 22, 6, 7, 23, 8, 9, 24, 10, 11, 25, 12, 13];
+
+/// The same, from the blue of pixel 10 on.
+const THIRD: [usize; LANES] = [26, 6, 7, 27, 8, 9, 28, 10, 11, 29, 12, 13, 30, 14, 15, 31];
+
+/// How many pixels are drawn at once; and the colours of a palette.
+pub(crate) const LANES: usize = 16;
+
+/// The bytes of that many pixels.
+pub(crate) const PIXELS: usize = 3 * LANES;
+
+/// The reds, the greens and the blues of sixteen colours.
+#[derive(Clone, Copy)]
+struct Channels {
+    reds: [u8; LANES],
+    greens: [u8; LANES],
+    blues: [u8; LANES],
 }
 
-/// Fills a table with the pixels of any two colour numbers side by side, sixteen pairs for each left one.
-fn fill(pairs: &mut [TwoPixels], colours: &[[u8; 3]])
-    requires pairs { length pairs.old ≡ 256 }
-    requires colours { length colours.now ≡ colour_numbers }
-    ensures { ArePairs colours.now pairs.new }
+/// The channels of sixteen colours.
+fn channels_of(colours: &[[u8; 3]]) -> Channels
+    requires { length colours.now ≡ colour_numbers }
+    ensures { AreChannels colours.now result.reds result.greens result.blues }
 {
-    for number in 0..256usize {
-        pairs[number] = side_by_side(colours[number / 16], colours[number % 16]);
+    let mut reds = [0; LANES];
+    let mut greens = [0; LANES];
+    let mut blues = [0; LANES];
+    for number in 0..LANES {
+        let [red, green, blue] = colours[number];
+        reds[number] = red;
+        greens[number] = green;
+        blues[number] = blue;
+    }
+    Channels {
+        reds,
+        greens,
+        blues,
     }
 }
 
@@ -45,32 +69,52 @@ pub(crate) fn word(numbers: &[u8]) -> u64
     u64::from_le_bytes(eight)
 }
 
-/// The places of the pairs of eight colour numbers in a table of pairs, in every other byte from the first on. All of them at
-/// once: of the numbers as one word, a shift to the left puts sixteen times each number into its byte, and one to the right the
-/// number that follows it.
-#[inline]
-fn pair_places(numbers: &[u8]) -> [u8; 8]
-    requires size { length numbers.now ≡ 8 }
-    requires below { EachIndex numbers.now (λ x. slice_index numbers.now x < colour_numbers) }
-    ensures { ArePlacesOfPairs numbers.now result }
-{
-    let word = word(numbers);
-    ((word << 4) + (word >> 8)).to_le_bytes()
-}
-
-/// The pair at a place of the table, by value: a copy can't overlap the pixels, which are written without a test for that.
+/// Sixteen colour numbers as a vector.
 #[inline(always)]
-fn pair(pairs: &[TwoPixels], place: u8) -> TwoPixels
-    requires { length pairs.now ≡ 256 }
-    ensures { result ≡ slice_index_or pairs.now place [] }
+fn sixteen(numbers: &[u8]) -> u8x16
+    requires { length numbers.now ≡ 16 }
+    ensures { result ≡ numbers.now }
 {
-    pairs[place as usize]
+    u8x16::from_slice(numbers)
 }
 
-/// A palette, with a table of the pixels of any two of its colours side by side. Clauses see the palette.
+/// What each of sixteen colour numbers picks of a channel.
+#[inline(always)]
+fn picked(channel: &[u8; LANES], numbers: u8x16) -> u8x16
+    requires { (k : ℕ) → k < 16 → slice_index numbers k < colour_numbers }
+    ensures { result ≡ map (λ number. slice_index channel.now number) numbers }
+{
+    u8x16::from_array(*channel).swizzle_dyn(numbers)
+}
+
+/// Sixteen pixels of these reds, greens and blues, three bytes each: 48 bytes in three vectors.
+#[inline(always)]
+fn weave(red: u8x16, green: u8x16, blue: u8x16) -> (u8x16, u8x16, u8x16)
+    ensures { result.0 ++ (result.1 ++ result.2) ≡ woven red green blue }
+{
+    let (left, right) = red.interleave(green);
+    let middle = left.shuffle(right, MIDDLE);
+    (
+        left.shuffle(blue, FIRST),
+        middle.shuffle(blue, SECOND),
+        right.shuffle(blue, THIRD),
+    )
+}
+
+/// Writes sixteen bytes at a place.
+#[inline(always)]
+fn put_vector(pixels: &mut [u8], at: usize, bytes: u8x16)
+    requires { at + 16 ≤ length pixels.old }
+    ensures size { length pixels.new ≡ length pixels.old }
+    ensures text { take (at + 16) pixels.new ≡ take at pixels.old ++ bytes }
+{
+    bytes.copy_to_slice(&mut pixels[at..]);
+}
+
+/// A palette, with its reds, greens and blues apart. Clauses see the palette.
 pub(crate) struct Palette {
     colours: Vec<[u8; 3]>,
-    pairs: Vec<TwoPixels>,
+    channels: Channels,
 }
 
 impl Drop for Palette {
@@ -78,7 +122,7 @@ impl Drop for Palette {
     fn drop(self) {
         let Palette {
             colours: _,
-            pairs: _,
+            channels: _,
         } = self;
     }
 }
@@ -91,7 +135,8 @@ impl Model for Palette {
 
     ghost view = { λ palette. palette.colours.items };
 
-    ghost invariant = { λ palette. IsPalette palette.colours.items palette.pairs.items };
+    ghost invariant = { λ palette.
+        IsPalette palette.colours.items palette.channels.reds palette.channels.greens palette.channels.blues };
 }
 
 impl Palette {
@@ -99,10 +144,9 @@ impl Palette {
     pub(crate) fn new(alloc: Global) -> Result<Palette, AllocError>
         ensures { IfOk result (λ palette. palette ≡ replicate 16 (replicate 3 0)) }
     {
-        let colours = Vec::from_slice(alloc, &[[0; 3]; 16])?;
-        let mut pairs = Vec::from_slice(alloc, &[[0; 8]; 256])?;
-        fill(&mut pairs, &colours);
-        Ok(Palette { colours, pairs })
+        let colours = Vec::from_slice(alloc, &[[0; 3]; LANES])?;
+        let channels = channels_of(&colours);
+        Ok(Palette { colours, channels })
     }
 
     /// Whether its colours are these.
@@ -118,24 +162,24 @@ impl Palette {
         ensures { self.new ≡ colours.now }
     {
         self.colours.copy_from_slice(colours);
-        fill(&mut self.pairs, colours);
+        self.channels = channels_of(colours);
     }
 
-    /// Puts the pixels of eight colour numbers, two at a time: the two bytes more of a pair are written over by the next one.
+    /// Puts the pixels of sixteen colour numbers.
     #[inline]
     pub(crate) fn colour(&self, numbers: &[u8], pixels: &mut [u8])
-        requires size { length numbers.now ≡ 8 }
+        requires size { length numbers.now ≡ 16 }
         requires below { EachIndex numbers.now (λ x. slice_index numbers.now x < colour_numbers) }
-        requires pixels { length pixels.old ≡ 24 }
+        requires pixels { length pixels.old ≡ 48 }
         ensures { pixels.new ≡ flat_map (palette_colour self.now) numbers.now }
     {
-        let pairs = self.pairs.as_slice();
-        let places = pair_places(numbers);
-        for k in 0..3usize {
-            let two = pair(pairs, places[2 * k]);
-            pixels[6 * k..6 * k + 8].copy_from_slice(&two);
-        }
-        let last = pair(pairs, places[6]);
-        pixels[18..].copy_from_slice(&last[..6]);
+        let lanes = sixteen(numbers);
+        let red = picked(&self.channels.reds, lanes);
+        let green = picked(&self.channels.greens, lanes);
+        let blue = picked(&self.channels.blues, lanes);
+        let (first, second, third) = weave(red, green, blue);
+        put_vector(pixels, 0, first);
+        put_vector(pixels, 16, second);
+        put_vector(pixels, 32, third);
     }
 }

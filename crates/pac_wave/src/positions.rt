@@ -72,6 +72,18 @@ impl Positions {
         self.third = other.third;
     }
 
+    /// The same ones.
+    #[inline(always)]
+    fn copied(&self) -> Positions
+        ensures { result ≡ self.now }
+    {
+        Positions {
+            first: self.first,
+            second: self.second,
+            third: self.third,
+        }
+    }
+
     /// The accumulators of the first, the second and the third voice.
     pub(crate) fn list(&self) -> [u32; 3]
         ensures of { accumulators_of_list result ≡ self.now }
@@ -98,7 +110,7 @@ impl Positions {
         sample
     }
 
-    /// The next sound samples while sound is on, as many as there is room for.
+    /// The next sound samples while sound is on, as many as there is room for. Meanwhile the positions stay in registers of the machine.
     #[inline]
     pub(crate) fn fill(&mut self, settings: &Settings, prom: &[u8; 256], samples: &mut [i16])
         ensures samples { samples.new
@@ -106,8 +118,10 @@ impl Positions {
         ensures accumulators { self.new
             ≡ accumulators_after_many settings.now true self.old (length samples.old) }
     {
+        let mut now = self.copied();
         for sample in samples.iter_mut() {
-            *sample = self.next(settings, prom);
+            *sample = now.next(settings, prom);
         }
+        self.copy_from(&now);
     }
 }

@@ -5,8 +5,8 @@ use Rattle.pac_media.proofs.image.append_line.Given as goal
 
 abbrev pub invariant-loop-block : goal.invariant-loop-block
 invariant-loop-block l = record {
-  drawn : l.image.items ≡ l.initial.image.items ++ flat_map (palette_colour l.palette) (take (8 * l.block) l.numbers);
-  long : vec_len l.image ≡ vec_len l.initial.image + 24 * l.block;
+  drawn : l.image.items ≡ l.initial.image.items ++ flat_map (palette_colour l.palette) (take (16 * l.block) l.numbers);
+  long : vec_len l.image ≡ vec_len l.initial.image + 48 * l.block;
   room : vec_capacity l.initial.image ≤ vec_capacity l.image;
-  size : length l.pixels ≡ 24;
+  size : length l.pixels ≡ 48;
 }

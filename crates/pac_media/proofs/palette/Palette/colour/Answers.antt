@@ -1,41 +1,28 @@
-use Rattle.std.proofs.Common.{◌≡◌, ◌<◌, ◌+◌, ◌*◌, ap, take, ◌∙◌, length, rules, arith, slice_index, get_or, []}
-use Rattle.std.proofs.lemmas.List.{places}
+-- What was picked of the three channels, woven and written part by part.
+use Rattle.std.proofs.Common.{◌≡◌, ◌<◌, ℕ, length, map, get_or, slice_index, ap, ◌∙◌}
+use Rattle.std.specs.List.{flat_map}
 use Rattle.pac_media.specs.Images.{palette_colour}
-use Rattle.pac_media.proofs.Pixels.{pair-pixels, pixels-step, all-pixels}
+use Rattle.pac_media.specs.Drawn.{woven}
+use Rattle.pac_media.proofs.Pixels.{three-parts, woven-pixels}
 use Rattle.pac_media.proofs.palette.Palette.colour.Goals as goal
-
-pub loop-k-preserved : goal.loop-k-preserved
-loop-k-preserved c =
-    let first : 2 * c.loop-k.k < length c.args.numbers.now = omega (arith, c.requires.size, c.loop-k-test.true) in
-    let inside : c.loop-k.k < 4 = omega (arith, c.loop-k-test.true) in
-    let second : 2 * c.loop-k.k + 1 < length c.args.numbers.now = omega (arith, c.requires.size, c.loop-k-test.true) in
-    let two = pair-pixels c.args.self.now c.self.inside.colours.items c.self.inside.pairs.items c.as_slice-pairs.result.now
-    c.pair-two.result
-    (slice_index c.args.numbers.now (2 * c.loop-k.k)) (slice_index c.args.numbers.now (2 * c.loop-k.k + 1)) c.self.view_is
-    c.self.invariant.made c.as_slice-pairs.ensures.value
-    (c.pair-two.ensures ∙ ap (λ place. get_or c.as_slice-pairs.result.now place []) (c.pair_places-places.ensures c.loop-k.k inside))
-    (c.requires.below (2 * c.loop-k.k) first)
-    (c.requires.below (2 * c.loop-k.k + 1) second) in
-    record {
-      long = search (rules, places);
-      filled = pixels-step (palette_colour c.args.self.now) c.args.numbers.now c.loop-k.pixels _ c.loop-k.k _
-          (ap (take 6) c.copy_from_slice.ensures.after ∙ two)
-          (search (rules, places)) (omega (arith, c.loop-k.invariant.long, c.loop-k-test.true))
-          (omega (arith, c.requires.size, c.loop-k-test.true))
-          c.loop-k.invariant.filled;
-    }
 
 pub returns : goal.returns
 returns c =
-    let all : c.loop-k.k ≡ 3 = omega (arith, c.loop-k-test.false, c.loop-k.auto.k-end) in
-    let sixth : 6 < length c.args.numbers.now = omega (arith, c.requires.size) in
-    let seventh : 7 < length c.args.numbers.now = omega (arith, c.requires.size) in
-    let last = pair-pixels c.args.self.now c.self.inside.colours.items c.self.inside.pairs.items c.as_slice-pairs.result.now
-    c.pair-last.result
-    (slice_index c.args.numbers.now 6) (slice_index c.args.numbers.now 7) c.self.view_is
-    c.self.invariant.made c.as_slice-pairs.ensures.value
-    (c.pair-last.ensures ∙ ap (λ place. get_or c.as_slice-pairs.result.now place []) (c.pair_places-places.ensures 3 (omega arith)))
-    (c.requires.below 6 sixth) (c.requires.below 7 seventh) in
-    all-pixels (palette_colour c.args.self.now) c.args.numbers.now c.loop-k.pixels c.copy_from_slice-2.new.self c.pair-last.result _
-    c.requires.size c.loop-k.invariant.long (search (rules, places)) c.copy_from_slice-2.ensures.after last
-    (rw all at c.loop-k.invariant.filled) (search (rules, places))
+    let numbers = c.args.numbers.now in
+    let channels = c.self.inside.channels in
+    let bytes = c.weave.result in
+    let below : (k : ℕ) → k < length numbers → get_or numbers k 0 < 16 = c.requires.below in
+    let long : length c.put_vector-3.new.pixels ≡ 48 =
+    c.put_vector-3.ensures.size ∙ (c.put_vector-2.ensures.size ∙ (c.put_vector.ensures.size ∙ c.requires.pixels)) in
+    let reds = map (λ n. slice_index channels.reds n) c.sixteen-lanes.result in
+    let greens = map (λ n. slice_index channels.greens n) c.sixteen-lanes.result in
+    three-parts c.args.pixels.now c.put_vector.new.pixels c.put_vector-2.new.pixels c.put_vector-3.new.pixels bytes.0 bytes.1 bytes.2
+    c.put_vector.ensures.text c.put_vector-2.ensures.text c.put_vector-3.ensures.text long
+    ∙ (c.weave.ensures
+    ∙ (ap (λ red. woven red c.picked-green.result c.picked-blue.result) c.picked-red.ensures
+    ∙ (ap (λ green. woven reds green c.picked-blue.result) c.picked-green.ensures
+    ∙ (ap (λ blue. woven reds greens blue) c.picked-blue.ensures
+    ∙ (ap (λ lanes. woven (map (λ n. slice_index channels.reds n) lanes) (map (λ n. slice_index channels.greens n) lanes)
+    (map (λ n. slice_index channels.blues n) lanes)) c.sixteen-lanes.ensures
+    ∙ (woven-pixels c.self.inside.colours.items channels.reds channels.greens channels.blues numbers c.self.invariant.made below
+    ∙ ap (λ palette. flat_map (palette_colour palette) numbers) c.self.view_is))))))

@@ -10,7 +10,7 @@ pub loop-sample-preserved : goal.loop-sample-preserved
 loop-sample-preserved c =
     let prom = c.args.prom.now in
     let registers = c.args.settings.now in
-    let start = c.args.self.now in
+    let start = c.copied-now.result in
     let i = c.loop-sample.sample-index in
     let so_far = c.loop-sample.invariant in
     let read : to_z w16 (of_z w16 c.next.result) ≡ c.next.result = to_z-of_z w16 c.next.result (search rules) in
