@@ -1,14 +1,12 @@
 -- A host's calls are acts over the history.
 use Rattle.std.proofs.Common.{◌≡◌, ℕ, zero, suc, ◌+◌, ◌-◌, Bool, true, false, List, [], ◌∷◌, ◌++◌, map, replicate, slice_index_or, Result}
-use Rattle.std.proofs.Common.{◌≤◌, nat_le, ◌&&◌, length, take, drop, Option, None}
+use Rattle.std.proofs.Common.{◌≤◌, nat_le, ◌&&◌, length, take, drop, Option}
 use Rattle.std.proofs.Common.{Ok, Err, ◌⊎◌, inl, inr, refl, sym, ap, subst, ◌∙◌, append_assoc, arith}
 use Rattle.std.proofs.Math.Seq.{take-append_seam, drop-append_seam}
 use Rattle.std.proofs.lemmas.Bool.Decides.{nat_tests}
 use Rattle.std.proofs.lemmas.List.{append-nil, replicate-append-replicate}
 use Rattle.pac_cpu.specs.declared.once.Once.{Once}
-use Rattle.pac_cpu.specs.declared.once.StepKind.TheVariants.{Halted}
 use Rattle.pac_cpu.specs.declared.once.Stop.{Stop}
-use Rattle.pac_map.specs.RomParts.{Parts}
 use Rattle.pac_board_model.specs.BoardView.{BoardView}
 use Rattle.pac_board_model.specs.History.{board_after_entries}
 use Rattle.pac_board_model.specs.Host.{Act, StepOn, Account, Host, with_step, after_act, after_acts, host_at, host_view, account_by_view}
@@ -33,11 +31,11 @@ use Rattle.pac_board.specs.CallsLaws.{Executes, StepsOnce, Offers, Advances, IsO
 use Rattle.pac_board.specs.Calls.{outputs_given}
 use Rattle.pac_board.specs.CallsLaws.{outputs_in, board_after_step}
 use Rattle.pac_board.specs.CallsLaws.{with_due}
-use Rattle.pac_board.specs.Hosts.{Call, Exec, StepOnce, Advance, Offer, GoTo, Rest, CountAsked, Reset, InputSet, InputClear, Snapshot}
+use Rattle.pac_board.specs.Hosts.{Call, Exec, StepOnce, Advance, Offer, GoTo, GoOn, CountAsked, Reset, InputSet, InputClear, Snapshot}
 use Rattle.pac_board.specs.Hosts.{Restore, PutFields, PutRoms, HostedBoard}
-use Rattle.pac_board.specs.Hosts.{run_took, refused_took, step_took, offer_took, way_took, IsCall, acts_of, stays_within, steps_between}
+use Rattle.pac_board.specs.Hosts.{run_took, refused_took, step_took, offer_took, way_took, road_took, IsCall, acts_of, stays_within, steps_between}
 use Rattle.pac_board.specs.Hosts.{AreCalls, acts_over, goes_back, given_over, history, CallsAreOfTheHistory, ListsAreCut, RestoresGiveAgain}
-use Rattle.pac_board.specs.Rests.{AreHalted, HasRested}
+use Rattle.pac_board.specs.Roads.{GoesOn}
 use Rattle.pac_board.specs.Turns.{GoesTo, way, way_at}
 
 -- ---- acts, one after another
@@ -107,37 +105,6 @@ module _ {Board : Type 0} (account : Account Board) where
         after_acts account at_first (replicate (w.now.steps - from.steps) StepOn) ≡ at_walk w
     walk-acted tries = acted-of (walk (step account.ask) limit from tries) (walked tries)
 
--- and so are halted steps that were done in one go
-module _ (set : Parts) (limit : ℕ) (from : Moment BoardView) (kept : List (Moment BoardView)) (before : List Output) (last : ℕ)
-    (to : Moment BoardView) (outputs : List Output) (steps : AreHalted (step (by_view set)) from last to outputs) where
-  abbrev account : Account BoardView
-  account = account_by_view set
-
-  abbrev IsSo : Walk BoardView → Type 0
-  IsSo w = IsWalked account limit from kept before w
-
-  abbrev silent : ℕ → Walk BoardView
-  silent n = record { now = steps.at n; outputs = []; stop = None }
-
-  halted-timely : (now after : Moment BoardView) (given : List Output) → step (by_view set) now ≡ Goes after given Halted
-      → IsTimely now (Goes after given Halted)
-  halted-timely now after given e = subst (IsTimely now) e (step-timely (by_view set) now)
-
-  silent-walked : (n : ℕ) → n ≤ last → IsSo (silent n)
-  silent-walked zero less =
-      subst (λ now. IsSo (record { now = now; outputs = []; stop = None })) (sym steps.first) (walked account limit from kept before zero)
-  silent-walked (suc n) less =
-      let e = steps.between n (omega (arith, less)) in
-      step-walked account limit from kept before (silent n) (Goes (steps.at (suc n)) [] Halted) e
-      (halted-timely (steps.at n) (steps.at (suc n)) [] e) (silent-walked n (omega (arith, less)))
-
-  rest-acted : after_acts account (record { now = from; kept = kept; outputs = before }) (replicate (to.steps - from.steps) StepOn)
-      ≡ record { now = to; kept = kept; outputs = before ++ outputs }
-  rest-acted =
-      acted-of account limit from kept before (record { now = to; outputs = outputs; stop = None })
-      (step-walked account limit from kept before (silent last) (Goes to outputs Halted) steps.ends
-      (halted-timely (steps.at last) to outputs steps.ends) (silent-walked last (omega arith)))
-
 -- ---- a board's calls
 
 abbrev at_moment : Moment BoardView → List (Moment BoardView) → List Output → Host BoardView
@@ -170,18 +137,6 @@ walk-acts old new limit tries taken set_is now_is ledger =
           ∙ walk-acted account limit old.state.now kept before tries
           ∙ ap (λ now. at_moment now kept (before ++ w.outputs)) (sym now_is);
       ledger = ledger;
-    }
-
--- by halted steps that were done in one go
-rest-acts : (old new : BoardValue) (limit : ℕ) → HasRested old limit new → due_outputs old ≡ []
-    → IsActed old (steps_on old.state.now new.state.now) [] new
-rest-acts old new limit rested nothing =
-    record {
-      set_is = ap (λ (b : BoardValue). b.set) rested.board;
-      gave = due_outputs new;
-      acted = λ kept before.
-          rest-acted old.set limit old.state.now kept before rested.last new.state.now (due_outputs new) rested.steps;
-      ledger = ap (λ due. due ++ due_outputs new) nothing;
     }
 
 -- by no step
@@ -336,6 +291,14 @@ module _ {S : Type 0} (to : Giving S) where
       (ap (λ (b : BoardValue). b.state.now) goes.board)
       (ap (λ due. due ++ (way_at old limit goes.steps).outputs) nothing ∙ goes.cut.parts)
 
+  road-acts : {E : Type 0} (old : BoardValue) (limit : ℕ) (stops : Option (List ℕ)) (sink : S) (answer : Result (Option Stop) E)
+      (new : BoardValue) (later : S) → (goes : GoesOn to old limit stops sink answer new later) → due_outputs old ≡ []
+      → IsActed old (steps_on old.state.now new.state.now) (road_took to old limit stops sink answer new later goes) new
+  road-acts {E} old limit stops sink (Ok stop) new later goes nothing =
+      way-acts {E = E} old goes.end sink (Ok stop) new later goes.gone nothing
+  road-acts {E} old limit stops sink (Err refusal) new later goes nothing =
+      way-acts {E = E} old limit sink (Err refusal) new later goes nothing
+
 -- ---- a host's calls
 
 abbrev moments : List BoardState → List (Moment BoardView)
@@ -434,8 +397,10 @@ module _ (earlier : List BoardState) where
         let call = done.0 in
         with-kept old own _ _ _ taken new own_is done.2 call.taken_is
         (way-acts to old.board limit call.sink call.answer new.board call.later call.done done.1)
-    call-acts (Rest limit) old own taken new own_is within done =
-        with-kept old own _ _ [] taken new own_is done.3 done.2 (rest-acts old.board new.board limit done.0 done.1)
+    call-acts (GoOn limit stops) old own taken new own_is within done =
+        let call = done.0 in
+        with-kept old own _ _ _ taken new own_is done.2 call.taken_is
+        (road-acts to old.board limit stops call.sink call.answer new.board call.later call.done done.1)
     call-acts (CountAsked microseconds) old own taken new own_is within done =
         silent-acts old.board own own _ new _ _ taken done own_is refl (λ before. refl) (λ _. refl)
     call-acts Reset old own taken new own_is within done =

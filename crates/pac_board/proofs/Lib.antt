@@ -1,10 +1,10 @@
 pub mod Sinks
 pub mod Walked
 pub mod Turns
-pub mod Rests
 pub mod Singles
 pub mod Told
 pub mod Stretches
+pub mod Roads
 pub mod Pieces
 pub mod Parts
 pub mod Hosts
@@ -19,4 +19,5 @@ pub use Rattle.pac_board_model.proofs.ResumedTimes
 pub use Rattle.pac_board_model.proofs.Runs
 pub use Rattle.pac_board_model.proofs.Walks
 pub use Rattle.pac_machine.proofs.Noted
+pub use Rattle.pac_machine.proofs.Passing
 pub use Rattle.pac_machine.proofs.Trails

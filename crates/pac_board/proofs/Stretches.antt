@@ -1,6 +1,6 @@
 -- A stretch of a board is steps that give samples alone, and then one turn: so the loop over stretches goes along the same walk as one
 -- over turns.
-use Rattle.std.proofs.Common.{◌≡◌, inl, inr, ℕ, ℤ, suc, ◌+◌, ◌<◌, ◌≤◌, Bool, true, false, ◌||◌}
+use Rattle.std.proofs.Common.{◌≡◌, ℕ, ℤ, suc, ◌+◌, ◌<◌, ◌≤◌, Bool, true, false, ◌||◌}
 use Rattle.std.proofs.Common.{List, [], ◌++◌, map, Option, None, Some, is_some, refl, sym, ap, subst, ◌∙◌, arith}
 use Rattle.pac_cpu.specs.declared.once.Stop.{Stop}
 use Rattle.pac_board_model.specs.BoardView.{BoardView}
@@ -17,12 +17,11 @@ use Rattle.pac_board.specs.Sinks.{TookAll}
 use Rattle.pac_board.specs.State.{BoardValue, nothing_due, due_outputs}
 use Rattle.pac_board.specs.CallsLaws.{next_of, board_after_step, once_at, outputs_in, with_due, IsOfferRefused}
 use Rattle.pac_board.specs.Calls.{next_from_moment}
-use Rattle.pac_board.specs.RestsProofs.{waits}
 use Rattle.pac_board.specs.Turns.{way_at, board_after_walk, HasGone, IsWayRefused}
 use Rattle.pac_machine.specs.Bursts.{stretch_end}
 use Rattle.pac_machine.specs.BurstsProofs.{line_end}
 use Rattle.pac_machine.specs.BurstsProofs.{outputs_of_step}
-use Rattle.pac_board.specs.Stretches.{stretch_of, batch_of, IsStretched, HasBatch, GoesWhole, IsHeardUntil, IsLastTurn}
+use Rattle.pac_board.specs.Stretches.{stretch_of, batch_of, IsStretched, HasBatch, IsHeardUntil, IsLastTurn}
 use Rattle.pac_board.specs.Stretches.{HasStretched, IsStretchRefused}
 use Rattle.pac_board.proofs.Pieces.{two-parts}
 use Rattle.pac_board.proofs.Sinks.{took-both, cut-along}
@@ -32,7 +31,7 @@ use Rattle.pac_board.proofs.Walked.{walked-after}
 
 -- ---- the last step of a stretch
 
-has-no-stop : (stop : Option Stop) (late : Bool) → (is_some stop || late) ≡ false → stop ≡ None
+pub has-no-stop : (stop : Option Stop) (late : Bool) → (is_some stop || late) ≡ false → stop ≡ None
 has-no-stop (Some stop) late going = not-both going
 has-no-stop None late going = refl
 
@@ -82,7 +81,7 @@ module _ {old : BoardValue} {near : ℕ} {stop : Option Stop} {given : List ℤ}
           heard = sym (ap (λ (v : Walk BoardView). v.outputs) on.1) ∙ batch.before;
         }
 
-    -- ---- a stretch that goes as far as it may
+    -- ---- a stretch of one step
 
     stretch-whole : (limit : ℕ) → batch_until ≡ stretch_end limit old.state.now.time → given ≡ []
         → has_ended batch_until (batch_of old near (suc batch.tries)) ≡ true → IsStretched old limit stop mid
@@ -106,20 +105,11 @@ module _ {old : BoardValue} {near : ℕ} {stop : Option Stop} {given : List ℤ}
         let longer = times.0 in late-has-ended batch_until (walk_after_step w (Goes now outputs kind)) (omega arith)
     step-ends w (Ends stop) times soon = stopped-has-ended batch_until (walk_after_step w (Ends stop)) stop refl
 
-    whole-ends : (limit : ℕ) → near ≤ limit → GoesWhole old limit → (waits old ≡ true → batch_until ≤ mid.state.now.time)
-        → has_ended batch_until (batch_of old near (suc batch.tries)) ≡ true
-    whole-ends limit less (inl one) waited =
+    pub single-goes : near ≡ old.state.now.time + 1 → given ≡ [] → IsStretched old (old.state.now.time + 1) stop mid
+    single-goes near_is none =
         let so_far = (walked-after next batch_until timely old.state.now batch.tries).time in
-        ap (has_ended batch_until) last-is ∙ step-ends before_last last_next (timely before_last.now) (omega arith)
-    whole-ends limit less (inr waiting) waited =
-        let late = waited waiting in
-        let time = ap (λ (b : BoardValue). b.state.now.time) batch.board in
-        late-has-ended batch_until (batch_of old near (suc batch.tries)) (omega arith)
-
-    pub goes-whole : (limit : ℕ) → near ≡ stretch_end limit old.state.now.time → given ≡ [] → GoesWhole old limit
-        → (waits old ≡ true → line_end near old.state.now.time ≤ mid.state.now.time) → IsStretched old limit stop mid
-    goes-whole limit near_is none whole waited =
-        stretch-whole limit (omega arith) none (whole-ends limit (omega arith) whole waited)
+        stretch-whole (old.state.now.time + 1) (omega arith) none
+        (ap (has_ended batch_until) last-is ∙ step-ends before_last last_next (timely before_last.now) (omega arith))
 
 -- ---- a turn, by its answer
 

@@ -28,7 +28,7 @@ use Rattle.pac_board.specs.SinksLaws.{Giving}
 use Rattle.pac_board.specs.State.{BoardValue, BoardState, due_outputs, board_after_reset, board_with_inputs}
 use Rattle.pac_board.specs.StateLaws.{restored_board}
 use Rattle.pac_board.specs.StateLaws.{with_more_asked}
-use Rattle.pac_board.specs.Rests.{HasRested}
+use Rattle.pac_board.specs.Roads.{GoesOn}
 use Rattle.pac_board.specs.Turns.{GoesTo, way}
 use Rattle.pac_board.specs.CallsLaws.{Executes, StepsOnce, Offers, Advances, IsOfferRefused, IsStepRefused, next_of, outputs_in}
 use Rattle.pac_board.specs.Calls.{outputs_given}
@@ -39,9 +39,9 @@ pub data Call : Type 0 where
   StepOnce : Call
   Advance : Call
   Offer : Call
-  -- `go_to`, and `go_to_told` too, which does the same and tells each step
   GoTo : (limit : ℕ) → Call
-  Rest : (limit : ℕ) → Call
+  -- `go`, which may stop before an address of a map
+  GoOn : (limit : ℕ) → (stops : Option (List ℕ)) → Call
   CountAsked : (microseconds : ℕ) → Call
   Reset : Call
   InputSet : (mask : ℕ) → Call
@@ -88,6 +88,11 @@ abbrev pub way_took : {S E : Type 0} (to : Giving S) (old : BoardValue) (limit :
 way_took to old limit sink (Ok stop) new later goes = (way old limit).outputs
 way_took to old limit sink (Err refusal) new later goes = goes.cut.taken
 
+abbrev pub road_took : {S E : Type 0} (to : Giving S) (old : BoardValue) (limit : ℕ) (stops : Option (List ℕ)) (sink : S)
+    (answer : Result (Option Stop) E) (new : BoardValue) (later : S) → GoesOn to old limit stops sink answer new later → List Output
+road_took to old limit stops sink (Ok stop) new later goes = (way old goes.end).outputs
+road_took to old limit stops sink (Err refusal) new later goes = goes.cut.taken
+
 -- ---- calls
 
 -- a call with some sink and some answer, which does this; and what the sink took
@@ -123,8 +128,11 @@ IsCall to (GoTo limit) old taken new =
     IsCallAnswered {A = Result (Option Stop) sinks.Refused} (λ sink answer later. GoesTo to old.board limit sink answer new.board later)
     (λ sink answer later done. way_took to old.board limit sink answer new.board later done) taken
     × (due_outputs old.board ≡ []) × (new.kept ≡ old.kept)
-IsCall to (Rest limit) old taken new =
-    HasRested old.board limit new.board × (due_outputs old.board ≡ []) × (taken ≡ []) × (new.kept ≡ old.kept)
+IsCall to (GoOn limit stops) old taken new =
+    IsCallAnswered {A = Result (Option Stop) sinks.Refused}
+    (λ sink answer later. GoesOn to old.board limit stops sink answer new.board later)
+    (λ sink answer later done. road_took to old.board limit stops sink answer new.board later done) taken
+    × (due_outputs old.board ≡ []) × (new.kept ≡ old.kept)
 IsCall to (CountAsked microseconds) old taken new =
     IsSilent (record { board = with_more_asked old.board microseconds; kept = old.kept }) taken new
 IsCall to Reset old taken new = IsSilent (record { board = board_after_reset old.board; kept = old.kept }) taken new
@@ -149,7 +157,7 @@ acts_of older StepOnce steps = replicate steps StepOn
 acts_of older Advance steps = replicate steps StepOn
 acts_of older Offer steps = []
 acts_of older (GoTo limit) steps = replicate steps StepOn
-acts_of older (Rest limit) steps = replicate steps StepOn
+acts_of older (GoOn limit stops) steps = replicate steps StepOn
 acts_of older (CountAsked microseconds) steps = []
 acts_of older Reset steps = ResetBoard ∷ []
 acts_of older (InputSet mask) steps = HoldToo mask ∷ []

@@ -10,8 +10,7 @@ pub mod CallsLaws
 pub mod Turns
 pub mod TurnsProofs
 pub mod Stretches
-pub mod Rests
-pub mod RestsProofs
+pub mod Roads
 pub mod Laws
 pub mod Kept
 pub mod Hosts
@@ -53,6 +52,7 @@ pub use Rattle.pac_board_model.specs.Walk
 pub use Rattle.pac_machine.specs.Bursts
 pub use Rattle.pac_machine.specs.Fields
 pub use Rattle.pac_machine.specs.Trails
+pub use Rattle.pac_machine.specs.Stops
 pub use Rattle.pac_machine.specs.declared.due.Due
 pub use Rattle.pac_machine.specs.declared.fields.Fields as BoardFields
 pub use Rattle.pac_machine.specs.declared.trail.PastStep

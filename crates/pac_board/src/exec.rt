@@ -1,24 +1,22 @@
 //! The calls that make steps, and offer what they give to a sink.
 
-ghost use Rattle.std.specs.Prelude.{◌≡◌, ◌<◌, ◌≤◌, ◌^◌, [], true, None, is_some, take};
+ghost use Rattle.std.specs.Prelude.{◌≡◌, ◌<◌, ◌≤◌, ◌+◌, ◌^◌, [], None, is_some, take};
 ghost use Rattle.pac_machine.specs.Standing.{latest, nothing_due};
 ghost use Rattle.pac_board.specs.State.{due_outputs};
 ghost use Rattle.pac_board.specs.CallsLaws.{with_due, Offers, IsAdvanced, Advances, StepsOnce, Executes};
 ghost use Rattle.pac_board.specs.SinksLaws.{by};
 ghost use Rattle.pac_board.specs.TurnsProofs.{Turns};
 ghost use Rattle.pac_board.specs.Turns.{GoesTo};
-ghost use Rattle.pac_board.specs.Stretches.{IsStretched, HasBatch, GoesWhole, Stretches, IsTold};
-ghost use Rattle.pac_machine.specs.Bursts.{next_sample, stretch_end};
-ghost use Rattle.pac_machine.specs.BurstsProofs.{line_end};
-ghost use Rattle.pac_board.specs.RestsProofs.{waits};
-ghost use Rattle.pac_board.specs.Rests.{HasRested};
+ghost use Rattle.pac_board.specs.Roads.{GoesOn, BoardPasses};
+ghost use Rattle.pac_board.specs.Stretches.{IsStretched, HasBatch, Stretches, IsTold};
+ghost use Rattle.pac_machine.specs.Bursts.{next_sample};
 
 use crate::board::Board;
 use crate::fault::{Fault, Idle};
 use crate::offer::offer;
 use crate::sink::{Refused, Sink};
 use pac_cpu::{Once, Stop};
-use pac_machine::{Due, MOST_ASKED, SAMPLE_TICKS, Trail};
+use pac_machine::{Due, MOST_ASKED, SAMPLE_TICKS, Stops, Trail};
 use std::mem::forget;
 
 /// The time, in T-states, from which on no step is begun (this profile).
@@ -53,13 +51,13 @@ impl Board {
         if self.machine.time() >= LATEST {
             return Err(Idle::TimeIsOver);
         }
-        Ok(self.go())
+        Ok(self.do_step())
     }
 
     /// Does the step of a board with nothing due and time left; what it gives is due then. It is a stretch that ends after its first
     /// step, so that one loop makes all steps of a program: with two of them the processor is called and not inlined.
     #[inline(always)]
-    fn go(&mut self) -> Once
+    fn do_step(&mut self) -> Once
         requires early { self.old.state.now.time < latest }
         requires nothing { due_outputs self.old ≡ [] }
         ensures { IsAdvanced self.old result self.new }
@@ -67,7 +65,7 @@ impl Board {
         let kind = self.machine.kind();
         let before = self.time();
         let mut met = None;
-        self.go_on(before + 1, &mut met);
+        self.go_on(&mut met);
         match met {
             Some(stop) => Once::Stopped(stop),
             None => Once::Stepped {
@@ -84,7 +82,7 @@ impl Board {
         requires nothing { due_outputs self.old ≡ [] }
         ensures { Turns (by S.took S.refused) self.old sink.old result self.new sink.new }
     {
-        let once = self.go();
+        let once = self.do_step();
         self.offer(sink)?;
         Ok(once)
     }
@@ -119,13 +117,15 @@ impl Board {
         }
     }
 
-    /// Does steps of a board with nothing due up to the end of the scan's line, to a limit before it, or to a stop, or some of these. Answers
-    /// whether a stop came, how many samples those before the last gave, and what the last gives, which isn't due yet. Each step is told.
+    /// Does steps of a board with nothing due up to the end of the scan's line, to a limit before it, or to a stop, or some of these; but the
+    /// first, none that begins where it is to stop. Answers whether a stop came, how many samples those before the last gave, and what the
+    /// last gives, which isn't due yet. Each step is told.
     #[inline(always)]
     fn make_stretch(
         &mut self,
         limit: u64,
         samples: &mut [i16; 5],
+        stops: &Stops<'_>,
         told: &mut Trail,
         met: &mut Option<Stop>,
     ) -> (bool, usize, Due)
@@ -135,13 +135,13 @@ impl Board {
         requires none { met.old ≡ None }
         ensures made { HasBatch self.old limit met.new (take result.1 samples.new) (with_due self.new result.2) }
         ensures told { IsTold self.old limit self.new told.old told.new }
+        ensures passes { BoardPasses stops.now self.old self.new }
         ensures nothing { self.new.state.due ≡ nothing_due }
         ensures stopped { result.0 ≡ is_some met.new }
         ensures count { result.1 ≤ 5 }
         ensures single { limit ≤ next_sample self.old.state.now.time → result.1 ≡ 0 }
-        ensures waited { waits self.old ≡ true → line_end limit self.old.state.now.time ≤ self.new.state.now.time }
     {
-        self.machine.stretch(limit, samples, told, met)
+        self.machine.stretch(limit, samples, stops, told, met)
     }
 
     /// A limit for a sink that has room for so many samples at once: where a line's don't fit, the next sample's moment at the latest.
@@ -151,7 +151,6 @@ impl Board {
         ensures later { self.now.state.now.time < result }
         ensures within { result ≤ limit }
         ensures single { room < 5 → result ≤ next_sample self.now.state.now.time }
-        ensures whole { room ≡ 0 → result ≡ stretch_end limit self.now.state.now.time }
     {
         if room >= 5 {
             return limit;
@@ -159,21 +158,18 @@ impl Board {
         limit.min(SAMPLE_TICKS * (self.time() / SAMPLE_TICKS + 1))
     }
 
-    /// Does the steps of a board with nothing due up to the next sample, to a limit before it, or to a stop, and what the last of them
-    /// gives is due then. It's one step, or the processor waits. No step is told.
+    /// Does the next step of a board with nothing due, and what it gives is due then. It isn't told.
     #[inline(always)]
-    fn go_on(&mut self, limit: u64, met: &mut Option<Stop>)
-        requires early { self.old.state.now.time < limit }
-        requires limit { limit ≤ latest }
+    fn go_on(&mut self, met: &mut Option<Stop>)
+        requires early { self.old.state.now.time < latest }
         requires nothing { due_outputs self.old ≡ [] }
         requires none { met.old ≡ None }
-        requires whole { GoesWhole self.old limit }
-        ensures { IsStretched self.old limit met.new self.new }
+        ensures { IsStretched self.old (self.old.state.now.time + 1) met.new self.new }
     {
-        let near = self.limit_for(limit, 0);
+        let near = self.time() + 1;
         let mut samples = [0; 5];
         let mut nobody = Trail::silent();
-        let (_, _, due) = self.make_stretch(near, &mut samples, &mut nobody, met);
+        let (_, _, due) = self.make_stretch(near, &mut samples, &Stops::none(), &mut nobody, met);
         forget(nobody);
         self.due = due;
     }
@@ -183,6 +179,7 @@ impl Board {
     fn stretch<S: Sink>(
         &mut self,
         limit: u64,
+        stops: &Stops<'_>,
         told: &mut Trail,
         sink: &mut S,
     ) -> Result<Option<Stop>, Refused>
@@ -191,11 +188,12 @@ impl Board {
         requires nothing { due_outputs self.old ≡ [] }
         ensures made { Stretches (by S.took S.refused) self.old limit sink.old result self.new sink.new }
         ensures told { IsTold self.old limit self.new told.old told.new }
+        ensures passes { BoardPasses stops.now self.old self.new }
     {
         let mut met = None;
         let mut samples = [0; 5];
         let near = self.limit_for(limit, S::room(sink));
-        let (stopped, count, given) = self.make_stretch(near, &mut samples, told, &mut met);
+        let (stopped, count, given) = self.make_stretch(near, &mut samples, stops, told, &mut met);
         sink.samples(&samples[..count]);
         self.give(given, sink)?;
         if stopped {
@@ -204,60 +202,45 @@ impl Board {
         Ok(None)
     }
 
-    /// Whether the processor is halted, and no interrupt is accepted before the next events.
-    #[inline]
-    pub fn is_waiting(&self) -> bool
-        ensures { result ≡ waits self.now }
-    {
-        self.machine.is_waiting()
-    }
-
-    /// Where the processor waits, does in one go the halted steps that begin before a limit and before the next sample; what the last
-    /// of them gives is due then.
-    #[inline]
-    pub fn rest(&mut self, limit: u64)
-        requires waiting { waits self.old ≡ true }
-        requires early { self.old.state.now.time < limit }
-        requires limit { limit ≤ latest }
-        requires nothing { due_outputs self.old ≡ [] }
-        ensures { HasRested self.old limit self.new }
-    {
-        self.go_on(limit, &mut None);
-    }
-
-    /// Does steps while the time is before a limit, up to a stop, and offers what each gives. Each step is told.
+    /// Does steps while the time is before a limit, up to a stop, or before one that begins where it is to stop, unless it is the first, and
+    /// offers what each gives. Each step is told.
     #[inline(always)]
     fn run<S: Sink>(
         &mut self,
-        end: u64,
+        limit: u64,
+        stops: &Stops<'_>,
         told: &mut Trail,
         sink: &mut S,
     ) -> Result<Option<Stop>, Refused>
-        requires end { end ≤ latest }
+        requires limit { limit ≤ latest }
         requires nothing { due_outputs self.old ≡ [] }
         requires made { self.old.made < 2 ^ 64 }
-        ensures made { GoesTo (by S.took S.refused) self.old end sink.old result self.new sink.new }
-        ensures told { IsTold self.old end self.new told.old told.new }
+        ensures made { GoesOn (by S.took S.refused) self.old limit stops.now sink.old result self.new sink.new }
+        ensures told { IsTold self.old limit self.new told.old told.new }
+        ensures passes { BoardPasses stops.now self.old self.new }
     {
-        while self.time() < end {
-            if let Some(met) = self.stretch(end, told, sink)? {
+        while self.time() < limit {
+            if let Some(met) = self.stretch(limit, stops, told, sink)? {
                 return Ok(Some(met));
+            }
+            if stops.has(self.regs().pc) {
+                return Ok(None);
             }
         }
         Ok(None)
     }
 
-    /// Does the same, and no step is told. The silent trail is forgotten and not dropped, for one that tells would give memory back, and
+    /// Does steps up to a limit or to a stop, and none is told. The silent trail is forgotten and not dropped, for one that tells would give memory back, and
     /// what calls for that can't be linked where a host has no heap.
     #[inline(always)]
-    fn run_untold<S: Sink>(&mut self, end: u64, sink: &mut S) -> Result<Option<Stop>, Refused>
-        requires end { end ≤ latest }
+    fn run_untold<S: Sink>(&mut self, limit: u64, sink: &mut S) -> Result<Option<Stop>, Refused>
+        requires limit { limit ≤ latest }
         requires nothing { due_outputs self.old ≡ [] }
         requires made { self.old.made < 2 ^ 64 }
-        ensures { GoesTo (by S.took S.refused) self.old end sink.old result self.new sink.new }
+        ensures { GoesTo (by S.took S.refused) self.old limit sink.old result self.new sink.new }
     {
         let mut nobody = Trail::silent();
-        let ran = self.run(end, &mut nobody, sink);
+        let ran = self.run(limit, &Stops::none(), &mut nobody, sink);
         forget(nobody);
         ran
     }
@@ -273,20 +256,23 @@ impl Board {
         self.run_untold(limit, sink)
     }
 
-    /// Does the same, and tells each step.
-    pub fn go_to_told<S: Sink>(
+    /// Does steps while the time is before a limit, up to a stop, or before one that begins where it is to stop, unless it is the first, and
+    /// offers what each gives. Each step is told. Nothing is due before.
+    pub fn go<S: Sink>(
         &mut self,
         limit: u64,
+        stops: &Stops<'_>,
         told: &mut Trail,
         sink: &mut S,
     ) -> Result<Option<Stop>, Refused>
         requires limit { limit ≤ latest }
         requires nothing { due_outputs self.old ≡ [] }
-        ensures made { GoesTo (by S.took S.refused) self.old limit sink.old result self.new sink.new }
+        ensures made { GoesOn (by S.took S.refused) self.old limit stops.now sink.old result self.new sink.new }
         ensures told { IsTold self.old limit self.new told.old told.new }
+        ensures passes { BoardPasses stops.now self.old self.new }
     {
         self.made();
-        self.run(limit, told, sink)
+        self.run(limit, stops, told, sink)
     }
 
     /// Lets so many microseconds go by: offers what is due, then does steps, and offers what each gives, while the time is before

@@ -4,7 +4,6 @@ pub mod Whole
 pub mod Answered
 pub mod Begun
 pub mod Taken
-pub mod Rested
 pub mod Strode
 pub use Rattle.pac_board.proofs.Agreed
 pub use Rattle.pac_board.proofs.HostCarried

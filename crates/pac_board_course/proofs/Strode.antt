@@ -1,6 +1,6 @@
 -- Steps of a course in one go: those of its board up to a limit within the frame under way.
 use Rattle.std.proofs.Common.{◌≡◌, ℕ, zero, suc, ◌+◌, ◌/◌, ◌==◌, ◌<◌, ◌≤◌}
-use Rattle.std.proofs.Common.{◌||◌, if◌then◌else◌, Bool, true, false, is_some, inl, inr, Option, None, Some}
+use Rattle.std.proofs.Common.{if◌then◌else◌, Bool, true, false, inl, inr, Option, None, Some}
 use Rattle.std.proofs.Common.{Result, Ok, Err, List, refl, sym, ap, subst, ◌∙◌, arith}
 use Rattle.std.proofs.lemmas.Bool.Decides.{nat_tests}
 use mathlib.Core.List.{IsPrefix}
@@ -12,17 +12,20 @@ use Rattle.pac_board.specs.ModelLaws.{IsTimely}
 use Rattle.pac_board.specs.Step.{Moment, Next, Goes, Ends, step, frame_ticks}
 use Rattle.pac_board.specs.Trace.{by_view, next_with_inputs, moment_with_inputs}
 use Rattle.pac_board.specs.Trails.{noted_step, stepped, noted, IsNoted}
+use Rattle.pac_board.specs.Roads.{GoesOn}
+use Rattle.pac_board.specs.Stops.{is_stop, PassesBy}
 use Rattle.pac_board.specs.Turns.{GoesTo, HasGone, IsWayRefused, board_after_walk}
 use Rattle.pac_board.specs.Walk.{Walk, walk, walk_after_step}
 use Rattle.pac_board.specs.WalkLaws.{has_ended}
 use Rattle.pac_board.specs.PastStep.{PastStep}
 use Rattle.pac_board.proofs.Noted.{walk-stepped}
-use Rattle.pac_board.proofs.Walks.{not-both, ended-stays, going-steps, going-is-early, on-the-way, open-is-late, walk-to-ends}
+use Rattle.pac_board.proofs.Walks.{ended-stays, going-steps, going-is-early, on-the-way, open-is-late, walk-to-ends}
 use Rattle.pac_board.proofs.Walks.{step-timely, play-timely}
 use Rattle.pac_board.specs.SinksLaws.{Giving}
 use Rattle.pac_board.specs.Sinks.{TookAll}
 use Rattle.pac_board.specs.State.{BoardValue}
 use Rattle.pac_board.proofs.Sinks.{cut-along}
+use Rattle.pac_board.proofs.Stretches.{has-no-stop}
 use Rattle.pac_inputs.specs.declared.line.Stretch.{Stretch}
 use Rattle.pac_board_course.proofs.Answered.{IsClosed, due-kept, underway, frame-answered}
 use Rattle.pac_board_course.proofs.Counted.{going-if-counted, going-same, going-next}
@@ -32,10 +35,6 @@ use Rattle.pac_board_course.specs.Frames.{frame_end}
 use Rattle.pac_board_course.specs.Told.{PlaysTold}
 
 -- ---- the step that meets a stop
-
-has-no-stop : (stop : Option Stop) (late : Bool) → (is_some stop || late) ≡ false → stop ≡ None
-has-no-stop (Some stop) late going = not-both going
-has-no-stop None late going = refl
 
 module _ (next : Moment BoardView → Next BoardView) (limit : ℕ) (from : Moment BoardView) where
   record IsStoppedAt (stop : Stop) (w : Walk BoardView) : Type 0 where
@@ -165,6 +164,20 @@ module _ {S : Type 0} (to : Giving S) (old : CourseValue) (board new : BoardValu
       frame-answered to old board new script gone sink later (Err refusal) old.board (frame_end old) refl refl early
       (refused-in-frame goes) closed scripts gones
 
+-- to the end that a board has come to, or to its limit
+pub goes-answered : {S E : Type 0} (to : Giving S) (old : CourseValue) (board new : BoardValue) (script : List Stretch) (gone : ℕ)
+    (sink later : S) (limit : ℕ) → limit ≤ frame_end old → old.board.state.now.time < end_of old → IsClosed old board new
+    → script ≡ old.script → gone ≡ old.gone → (stops : Option (List ℕ)) (result : Result (Option Stop) E)
+    → old.board.state.now.time < limit → GoesOn to old.board limit stops sink result board later
+    → PlaysTold to old sink result (record { board = new; script = script; gone = gone }) later
+goes-answered {E = E} to old board new script gone sink later limit within early closed scripts gones stops (Ok stop) soon goes =
+    let sooner = goes.within in
+    told-answered to old board new script gone sink later goes.end (omega arith) early closed scripts gones {E = E}
+    (Ok stop) (goes.some soon)
+    goes.gone
+goes-answered {E = E} to old board new script gone sink later limit within early closed scripts gones stops (Err refusal) soon goes =
+    told-answered to old board new script gone sink later limit within early closed scripts gones (Err refusal) soon goes
+
 -- ---- what is told
 
 module _ (old : CourseValue) (until : ℕ) (within : until ≤ frame_end old) where
@@ -235,6 +248,15 @@ module _ (old : CourseValue) (until : ℕ) (within : until ≤ frame_end old) wh
             subst (λ (m : Moment BoardView). m.time < until) (sym (stepped-held bare.count bare.begun n less)) (bare.begun n less);
         told_is = bare.told_is ∙ sym (noted-held bare.count bare.begun told bare.count (omega arith));
       }
+
+  -- and passes by the same
+  pub course-passes : (board : Moment BoardView) (steps : ℕ) (stops : Option (List ℕ)) (told after : Option (List PastStep))
+      → IsNoted plain until from board told after → PassesBy plain stops from board.steps → steps ≡ board.steps
+      → PassesBy (next_in old) stops from steps
+  course-passes board steps stops told after bare passed same n some before =
+      let so_many = bare.steps in
+      subst (λ (m : Moment BoardView). is_stop stops m.regs.pc ≡ false) (sym (stepped-held bare.count bare.begun n (omega arith)))
+      (passed n some (omega arith))
 
 -- where the course is, by its answer
 pub tries-of : {S E : Type 0} (to : Giving S) (old new : CourseValue) (sink later : S) (result : Result (Option Stop) E)

@@ -2,7 +2,6 @@ pub mod Course
 pub mod CourseProofs
 pub mod Plays
 pub mod Frames
-pub mod Rests
 pub mod Told
 pub mod Laws
 pub use Rattle.pac_inputs.specs.Codes as ScriptCodes
@@ -25,7 +24,6 @@ pub use Rattle.pac_board.specs.Once
 pub use Rattle.pac_board.specs.OnceVariants
 pub use Rattle.pac_board.specs.Output
 pub use Rattle.pac_board.specs.Regs
-pub use Rattle.pac_board.specs.Rests as BoardRests
 pub use Rattle.pac_board.specs.Resumed
 pub use Rattle.pac_board.specs.RomParts
 pub use Rattle.pac_board.specs.Shown
@@ -37,6 +35,8 @@ pub use Rattle.pac_board.specs.StepKindVariants
 pub use Rattle.pac_board.specs.Stop
 pub use Rattle.pac_board.specs.Trace
 pub use Rattle.pac_board.specs.Trails
+pub use Rattle.pac_board.specs.Turns
+pub use Rattle.pac_board.specs.Stops
 pub use Rattle.pac_board.specs.Walk
 pub use Rattle.pac_board.specs.Due
 pub use Rattle.pac_board.specs.declared.fault.Idle

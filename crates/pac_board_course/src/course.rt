@@ -9,9 +9,9 @@ ghost use Rattle.pac_inputs.specs.Stretches.{most_frames, total_frames};
 ghost use Rattle.pac_board_course.specs.CourseProofs.{FitsTime, FitsAsked, board_asked, frames_begun};
 ghost use Rattle.pac_board_course.specs.Course.{begun, end_of};
 ghost use Rattle.pac_board_course.specs.Frames.{PlaysFrameOn};
-ghost use Rattle.pac_board_course.specs.Plays.{CourseAdvances, RunsToEnd};
+ghost use Rattle.pac_board_course.specs.Plays.{RunsToEnd};
 
-use pac_board::{Board, FRAME_TICKS, Flags, Idle, Inputs, Once, Refused, Sink, Stop};
+use pac_board::{Board, FRAME_TICKS, Flags, Inputs, Refused, Sink, Stop};
 use pac_inputs::Script;
 use std::marker::Model;
 
@@ -54,28 +54,6 @@ pub fn hold(board: &mut Board, inputs: Inputs)
 {
     board.input_clear(Inputs::from_bits_retain(0xFFFF));
     board.input_set(inputs);
-}
-
-/// Does the next step of a script's run on a board, whose outputs are due then; so many frames had gone by before the script's first one.
-/// After a blank the next frame's inputs are held. Where the run is over, or outputs are due already, it does nothing.
-#[inline]
-pub fn play_step(board: &mut Board, script: &Script, gone: u64) -> Result<Once, Idle>
-    requires time { frame_ticks * (gone + total_frames script.now) ≤ state.latest }
-    requires short { total_frames script.now ≤ most_frames }
-    ensures { CourseAdvances
-        (record { board = board.old; script = script.now; gone = gone }) result
-        (record { board = board.new; script = script.now; gone = gone }) }
-{
-    let frame = board.time() / FRAME_TICKS;
-    if board.time() >= FRAME_TICKS * (gone + u64::from(script.frames())) {
-        return Err(Idle::TimeIsOver);
-    }
-    let once = board.advance()?;
-    let next = board.time() / FRAME_TICKS;
-    if next != frame {
-        hold(board, script.held((next + 1).saturating_sub(gone) as u32));
-    }
-    Ok(once)
 }
 
 impl Course {

@@ -1,12 +1,12 @@
 -- Steps of a session in one go, over plain values: what stands before them stands after them.
 use Rattle.std.proofs.Common.{◌≡◌, ℕ, zero, suc, ◌+◌, ◌-◌, ◌*◌, ◌/◌, ◌%◌, ◌^◌, ◌==◌, ◌<◌, ◌≤◌, Bool, true, false, min, max, nat_lt}
-use Rattle.std.proofs.Common.{if◌then◌else◌, length}
+use Rattle.std.proofs.Common.{if◌then◌else◌}
 use Rattle.std.proofs.Common.{Option, None, Some, Result, Ok, Err, List, [], ◌∷◌, ◌++◌, refl, sym, ap, subst, ◌∙◌, arith}
 use Rattle.std.specs.List.{list_any}
 use Rattle.std.proofs.lemmas.Bool.Decides.{nat_tests}
 use Rattle.circular_buffer.specs.Buffer.{keep_last}
 use mathlib.Core.List.{IsPrefix}
-use Rattle.pac_board_course.specs.BoardRests.{board_at}
+use Rattle.pac_board_course.specs.Turns.{board_at}
 use Rattle.pac_board_course.specs.BoardView.{BoardView}
 use Rattle.pac_board_course.specs.Calls.{now_after}
 use Rattle.pac_board_course.specs.Course.{CourseValue, next_in, way_walked}
@@ -18,12 +18,14 @@ use Rattle.pac_board_course.specs.Sinks.{TookAll}
 use Rattle.pac_board_course.specs.State.{BoardValue, nothing_due, due_outputs, due_outputs_in, steps_counted}
 use Rattle.pac_board_course.specs.Step.{Moment, Next, Goes, frame_ticks}
 use Rattle.pac_board_course.specs.Stop.{Stop}
+use Rattle.pac_board_course.specs.Stops.{PassesBy}
 use Rattle.pac_board_course.specs.Stretch.{Stretch}
 use Rattle.pac_board_course.specs.Plays.{IsCourseHeldUp}
 use Rattle.pac_board_course.specs.Told.{HasEndedBy, PlaysTold}
 use Rattle.pac_board_course.specs.Trails.{noted_step, stepped, noted, IsNoted}
 use Rattle.pac_board_course.specs.Walk.{Walk}
 use Rattle.pac_board_course.proofs.Sinks.{cut-along, cut-something}
+use Rattle.pac_debug_session.specs.Breakpoints.{AreStops}
 use Rattle.pac_debug_session.specs.Inside.{IsStanding}
 use Rattle.pac_debug_session.specs.Keeping.{Ring, kept_of, ring_after_index}
 use Rattle.pac_debug_session.specs.Motions.{checkpoint_steps, moved_to}
@@ -39,8 +41,7 @@ use Rattle.pac_debug_session.proofs.Forwards.{between-self}
 use Rattle.pac_board_course.proofs.Trails.{kept-joined}
 use Rattle.pac_debug_session.proofs.Indices.{IsOpen, open-up-to, one-more, goes-on, goes-early, timely}
 use Rattle.pac_debug_session.proofs.PlayedOn.{run-walked, given-walked}
-use Rattle.pac_debug_session.proofs.Steppings.{with_board, IsLeft, left}
-use Rattle.pac_debug_session.proofs.Strides.{next-same, value-after}
+use Rattle.pac_debug_session.proofs.Steppings.{with_board, IsLeft, left, next-same, value-after}
 
 -- ---- step by step
 
@@ -226,14 +227,20 @@ module _ (board : BoardValue) (switches : ℕ) (script : List Stretch) (history 
               let later = here.time in
               omega arith
 
-      pub nothing-met : (breakpoints : List ℕ) → breakpoints ≡ [] → (last : ℕ) → tries ≡ suc last
-          → MeetNothing setting breakpoints index (index + last)
-      nothing-met breakpoints free last is = record {
+      pub nothing-met : (heeded : List ℕ) (stops : Option (List ℕ)) → AreStops stops heeded
+          → PassesBy (next_in (course_on board)) stops board.state.now new.state.now.steps → (last : ℕ) → tries ≡ suc last
+          → MeetNothing setting heeded index (index + last)
+      nothing-met heeded stops are passes last is = record {
         after = omega arith;
         goes = λ i after before. goes-all i (omega arith);
         breaks = λ i after before.
-            ap (list_any (λ address. address == (now_at setting i).regs.pc)) free
-            ∙ sym (ap (list_any (λ address. address == (now_at setting index).regs.pc)) free);
+            let n : ℕ = i - index in
+            let same : i ≡ index + n = omega arith in
+            let all = played.all_steps in
+            let here = reached-here n (omega arith) in
+            let there = ap (λ (m : Moment BoardView). m.regs.pc) (ap (now_at setting) same ∙ here.now_is) in
+            ap (λ pc. list_any (λ address. address == pc) heeded) there
+            ∙ sym (are (stepped (next_in (course_on board)) board.state.now n).regs.pc) ∙ passes n (omega arith) (omega arith);
         frame = λ i after before.
             let n : ℕ = i - index in
             let same : i ≡ index + n = omega arith in
@@ -330,22 +337,24 @@ module _ (board : BoardValue) (switches : ℕ) (script : List Stretch) (history 
       (most fits : ℕ) (limit_is : limited ≡ board.state.now.time + 4 * fits)
       (fits_is : fits ≡ min most (checkpoint_steps - at % checkpoint_steps))
       (notes : IsNoted (next_in (on board)) (min limited (frame_end (on board))) board.state.now new.state.now (Some history)
-      (Some told)) (breakpoints : List ℕ) (free : breakpoints ≡ []) (slots : List (Option ℕ)) (replayed : ℕ) where
+      (Some told)) (heeded : List ℕ) (stops : Option (List ℕ)) (are : AreStops stops heeded)
+      (passes : PassesBy (next_in (on board)) stops board.state.now new.state.now.steps)
+      (breakpoints : List ℕ) (slots : List (Option ℕ)) (replayed : ℕ) where
     abbrev before : SessionValue
     before = with_board switches script board furthest breakpoints slots replayed
 
     abbrev after : SessionValue
     after = with_board switches script new (max furthest new.state.now.steps) breakpoints slots replayed
 
-    leap-of : (tries : ℕ) → IsPlayed board switches script history furthest ring new tries → IsLeap before most tries
+    leap-of : (tries : ℕ) → IsPlayed board switches script history furthest ring new tries → IsLeap before heeded most tries
     leap-of tries played =
         let few = few-steps board switches script history furthest ring stands unasked limited new told tries played notes fits
         limit_is in
         record {
           few = omega arith;
           unmet = λ last is.
-              nothing-met board switches script history furthest ring stands unasked limited new told tries played notes breakpoints free
-              last is;
+              nothing-met board switches script history furthest ring stands unasked limited new told tries played notes heeded stops are
+              passes last is;
         }
 
     ending-of : (tries : ℕ) (stop : Option Stop) → IsPlayed board switches script history furthest ring new tries
@@ -361,7 +370,7 @@ module _ (board : BoardValue) (switches : ℕ) (script : List Stretch) (history 
 
     refused-after : (steps : ℕ) (held : IsCourseHeldUp to (on board) sink (on new) later) → held.steps ≡ steps
         → IsPlayed board switches script history furthest ring new steps → due_outputs new ≡ session_due_outputs after
-        → IsLeapRefused to before most sink after later
+        → IsLeapRefused to before heeded most sink after later
     refused-after zero held is played same = cut-something held.cut (ap (λ n. (way_walked (on board) n).outputs) is)
     refused-after (suc last) held is played same = record {
       last = last;
@@ -378,7 +387,7 @@ module _ (board : BoardValue) (switches : ℕ) (script : List Stretch) (history 
     }
 
     pub leapt-so : {E : Type 0} (result : Result (Option Stop) E) → PlaysTold to (on board) sink result (on new) later
-        → HasLeaptOn new told → Leaps to before most sink result after later
+        → HasLeaptOn new told → Leaps to before heeded most sink result after later
     unfolding where-played
     leapt-so (Ok stop) made stood =
         let tries = made.played.steps in
@@ -422,10 +431,10 @@ module _ (old new : SessionValue) (facts : IsSession old) (nothing : old.due ≡
       none-made : (made n : ℕ) → made < 2 ^ 64 → steps_counted made (n - n) ≡ made
       none-made made n fits = omega arith
 
-  module _ {S : Type 0} (E : Type 0) (to : Giving S) (most asked : ℕ) (sink later : S) (found : Option Stop) (few : asked ≤ most)
-      (leapt : IsLeapt old asked found new)
+  module _ {S : Type 0} (E : Type 0) (to : Giving S) (heeded : List ℕ) (most asked : ℕ) (sink later : S) (found : Option Stop) (few : asked ≤ most)
+      (leapt : IsLeapt old heeded asked found new)
       (taken : TookAll to.took sink (outputs_between old.setting old.furthest new.furthest) later) where
-    met : (stop : Option Stop) → LeapEnds old leapt.count stop → leapt.count ≡ 0 → StepsOn {E = E} to old most sink (Ok stop) new later
+    met : (stop : Option Stop) → LeapEnds old leapt.count stop → leapt.count ≡ 0 → StepsOn {E = E} to old heeded most sink (Ok stop) new later
     met None ends none = absurd (omega arith)
     met (Some stop) ends none =
         let here : old.index + leapt.count ≡ old.index = omega arith in
@@ -439,19 +448,19 @@ module _ (old new : SessionValue) (facts : IsSession old) (nothing : old.due ≡
               (ap (outputs_between old.setting old.furthest) far ∙ between-self old.setting old.furthest) taken;
         }
 
-    strode : (n : ℕ) → leapt.count ≡ n → StepsOn {E = E} to old most sink (Ok (if nat_lt old.index new.index then None else found)) new
+    strode : (n : ℕ) → leapt.count ≡ n → StepsOn {E = E} to old heeded most sink (Ok (if nat_lt old.index new.index then None else found)) new
         later
     strode zero is =
         let index = ap (λ (s : SessionValue). s.index) leapt.session in
         let there : nat_lt old.index new.index ≡ false = grind (arith, nat_tests) in
-        subst (λ (b : Bool). StepsOn {E = E} to old most sink (Ok (if b then None else found)) new later) (sym there)
+        subst (λ (b : Bool). StepsOn {E = E} to old heeded most sink (Ok (if b then None else found)) new later) (sym there)
         (met found leapt.ending is)
     strode (suc last) is =
         let index = ap (λ (s : SessionValue). s.index) leapt.session in
         let there : nat_lt old.index new.index ≡ true = grind (arith, nat_tests) in
         let bound = leapt.leap.few in
         let same : old.index + leapt.count ≡ old.index + last + 1 = omega arith in
-        subst (λ (b : Bool). StepsOn {E = E} to old most sink (Ok (if b then None else found)) new later) (sym there)
+        subst (λ (b : Bool). StepsOn {E = E} to old heeded most sink (Ok (if b then None else found)) new later) (sym there)
         (record {
           last = old.index + last;
           unmet = leapt.leap.unmet last is;
@@ -460,7 +469,7 @@ module _ (old new : SessionValue) (facts : IsSession old) (nothing : old.due ≡
           sink_is = taken;
         })
 
-    pub strode-on : StepsOn {E = E} to old most sink (Ok (if nat_lt old.index new.index then None else found)) new later
+    pub strode-on : StepsOn {E = E} to old heeded most sink (Ok (if nat_lt old.index new.index then None else found)) new later
     strode-on = strode leapt.count refl
 
   -- from the furthest index on, and behind it
@@ -483,9 +492,9 @@ module _ (old new : SessionValue) (facts : IsSession old) (nothing : old.due ≡
       subst (λ xs. TookAll to.took sink xs sink)
       (sym (ap (outputs_between old.setting old.furthest) far ∙ between-self old.setting old.furthest)) refl
 
-  pub leap-refused : {S : Type 0} (to : Giving S) (most : ℕ) (sink later : S) → old.index ≡ old.furthest
-      → IsLeapRefused to old most sink new later → IsStrideRefused to old most sink new later
-  leap-refused to most sink later fresh held =
+  pub leap-refused : {S : Type 0} (to : Giving S) (heeded : List ℕ) (most : ℕ) (sink later : S) → old.index ≡ old.furthest
+      → IsLeapRefused to old heeded most sink new later → IsStrideRefused to old heeded most sink new later
+  leap-refused to heeded most sink later fresh held =
       let furthest = ap (λ (s : SessionValue). s.furthest) held.session in
       let far : new.furthest ≡ old.index + suc held.last = omega arith in
       let bound = held.leap.few in
@@ -503,8 +512,3 @@ module _ (old new : SessionValue) (facts : IsSession old) (nothing : old.due ≡
         of_last =
             subst (λ xs. IsPrefix xs held.cut.taken) (ap (λ n. outputs_between old.setting n (old.index + held.last)) fresh) held.of_last;
       }
-
--- a list of no length is empty
-pub none-in : {A : Type 0} (xs : List A) → length xs ≡ 0 → xs ≡ []
-none-in [] is = refl
-none-in (x ∷ xs) is = absurd (omega arith)

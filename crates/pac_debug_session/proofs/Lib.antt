@@ -1,7 +1,7 @@
 pub mod Indices
 pub mod Histories
+pub mod Marked
 pub mod Steppings
-pub mod Strides
 pub mod Forwards
 pub mod Travelled
 pub mod Backwards

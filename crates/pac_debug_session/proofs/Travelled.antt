@@ -1,6 +1,7 @@
 -- A motion is steps forwards, one after another, up to the least index at which it rests.
 use Rattle.std.proofs.Common.{◌≡◌, ℕ, suc, ◌+◌, ◌-◌, ◌^◌, ◌==◌, ◌<◌, ◌≤◌, Bool, true, false, not, ◌&&◌, ◌||◌, is_none, max, nat_lt}
 use Rattle.std.proofs.Common.{nat_le, if◌then◌else◌, Option, None, Some, ◌++◌, refl, sym, ap, subst, ◌∙◌, arith}
+use Rattle.std.proofs.lemmas.Bool.{or_parts}
 use Rattle.std.proofs.lemmas.Bool.Decides.{nat_tests}
 use mathlib.Core.List.{IsPrefix}
 use Rattle.pac_board_course.specs.Stop.{Stop}
@@ -31,7 +32,7 @@ use Rattle.pac_debug_session.specs.RunningLaws.{whole_run}
 use Rattle.pac_debug_session.specs.Running.{goes_at, blanks_at, outputs_between}
 use Rattle.pac_debug_session.specs.Session.{SessionValue, breaks_at}
 use Rattle.pac_debug_session.specs.SessionLaws.{IsSession}
-use Rattle.pac_debug_session.specs.Strides.{MeetNothing, steps_left, longest_stride, HasStrode, HasMetStop, IsStrideRefused}
+use Rattle.pac_debug_session.specs.Strides.{MeetNothing, heeded_by, steps_left, longest_stride, HasStrode, HasMetStop, IsStrideRefused}
 use Rattle.pac_debug_session.proofs.Indices.{IsOpen, open-up-to, next-index, timely, early-time, times-grow}
 use Rattle.pac_debug_session.proofs.Forwards.{between-joined, between-self}
 
@@ -101,17 +102,26 @@ met-false true done undone = undone
 met-false false done undone = refl
 
 module _ (s : SessionValue) (from : ℕ) where
-  -- what breakpoints and frames are asked of stays within a stride, and counted steps are left
+  -- a stride that begins on no breakpoint comes to none before its end
+  unbroken-within : (index last at : ℕ) → breaks_at s index ≡ false → MeetNothing s.setting s.breakpoints index last → index ≤ at
+      → at ≤ last → breaks_at s at ≡ false
+  unbroken-within index last at unbroken alike after before = choose (nat_lt index at) refl
+    where
+      choose : (b : Bool) → nat_lt index at ≡ b → breaks_at s at ≡ false
+      choose true e = alike.breaks at (grind (arith, nat_tests)) before
+      choose false e = let same : at ≡ index = grind (arith, nat_tests) in ap (breaks_at s) same ∙ unbroken
+
+  -- so within a stride nothing is met, and counted steps are left
   undone-within : (motion : Motion) (index last at : ℕ) → from < index → is_done s motion from index ≡ false
-      → MeetNothing s.setting s.breakpoints index last → last < index + steps_left motion (index - from) → index ≤ at → at ≤ last
-      → is_done s motion from at ≡ false
+      → MeetNothing s.setting (heeded_by motion s.breakpoints) index last → last < index + steps_left motion (index - from) → index ≤ at
+      → at ≤ last → is_done s motion from at ≡ false
   undone-within (Steps count) index last at gone undone alike few after before = grind (arith, nat_tests)
-  undone-within Continue index last at gone undone alike few after before =
-      alike.breaks at after before ∙ undone
+  undone-within Continue index last at gone undone alike few after before = unbroken-within index last at undone alike after before
   undone-within (Frames count) index last at gone undone alike few after before =
-      ap (λ breaks. breaks || nat_le (blanks_at s.setting from + count) (blanks_at s.setting at)) (alike.breaks at after before)
-      ∙ ap (λ blanks. breaks_at s index || nat_le (blanks_at s.setting from + count) blanks) (alike.frame at after before)
-      ∙ undone
+      let both = or_parts _ _ undone in
+      ap (λ breaks. breaks || nat_le (blanks_at s.setting from + count) (blanks_at s.setting at))
+      (unbroken-within index last at both.0 alike after before)
+      ∙ ap (nat_le (blanks_at s.setting from + count)) (alike.frame at after before) ∙ both.1
   undone-within ToEnd index last at gone undone alike few after before = refl
 
   -- where it isn't done, a step is left
@@ -175,7 +185,7 @@ module _ {S : Type 0} (to : Giving S) (old : SessionValue) (motion : Motion) (si
 
   -- at no index within a stride has the motion done what it is for
   unmet-within : (s : SessionValue) (last index : ℕ) → s ≡ moved_to old s.index → has_met old motion old.index s.index ≡ false
-      → old.index ≤ s.index → MeetNothing s.setting s.breakpoints s.index last → last < s.index + longest_stride motion (s.index -
+      → old.index ≤ s.index → MeetNothing s.setting (heeded_by motion s.breakpoints) s.index last → last < s.index + longest_stride motion (s.index -
       old.index)
       → s.index ≤ index → index ≤ last → has_met old motion old.index index ≡ false
   unmet-within s last index session unmet after alike few from less = choose (s.index - old.index == 0) refl
@@ -193,7 +203,7 @@ module _ {S : Type 0} (to : Giving S) (old : SessionValue) (motion : Motion) (si
           let gone : nat_lt old.index s.index ≡ true = grind (arith, nat_tests) in
           let undone : is_done old motion old.index s.index ≡ false
           = sym (ap (λ b. b && is_done old motion old.index s.index) gone) ∙ unmet in
-          let seen = subst (λ (t : SessionValue). MeetNothing t.setting t.breakpoints s.index last) session alike in
+          let seen = subst (λ (t : SessionValue). MeetNothing t.setting (heeded_by motion t.breakpoints) s.index last) session alike in
           let bound : last < s.index + steps_left motion (s.index - old.index) = omega arith in
           met-false (nat_lt old.index index) (is_done old motion old.index index)
           (undone-within old old.index motion s.index last index more undone seen bound from less)
@@ -214,7 +224,7 @@ module _ {S : Type 0} (to : Giving S) (old : SessionValue) (motion : Motion) (si
 
   -- no index rests up to steps that go on
   restless-on : (s : SessionValue) (taker : S) (last : ℕ) → IsUnderway s taker → has_met s motion old.index s.index ≡ false
-      → MeetNothing s.setting s.breakpoints s.index last → last < s.index + longest_stride motion (s.index - old.index)
+      → MeetNothing s.setting (heeded_by motion s.breakpoints) s.index last → last < s.index + longest_stride motion (s.index - old.index)
       → (earlier : ℕ) → old.index ≤ earlier → earlier ≤ last → rests old motion old.index earlier ≡ false
   restless-on s taker last under unmet alike few earlier from less = choose (nat_lt earlier s.index) refl
     where
@@ -229,7 +239,7 @@ module _ {S : Type 0} (to : Giving S) (old : SessionValue) (motion : Motion) (si
           (unmet-within s last earlier under.session (met-there s s.index false under.session unmet) under.after alike few after less) goes
 
   pub underway-more : (s new : SessionValue) (taker later : S) → IsUnderway s taker → has_met s motion old.index s.index ≡ false
-      → HasStrode to.took s (longest_stride motion (s.index - old.index)) taker new later → IsUnderway new later
+      → HasStrode to.took s (heeded_by motion s.breakpoints) (longest_stride motion (s.index - old.index)) taker new later → IsUnderway new later
   underway-more s new taker later under unmet one =
       let after = under.after in
       let along = one.unmet.after in
@@ -294,7 +304,7 @@ module _ {S : Type 0} (to : Giving S) (old : SessionValue) (motion : Motion) (si
       (subst (λ taken. HasTravelled to.took old motion sink (AtStop stop) s taken) (sym stopped.sink_is) done)
 
   pub underway-refused : (s new : SessionValue) (taker later : S) → IsUnderway s taker → has_met s motion old.index s.index ≡ false
-      → IsStrideRefused to s (longest_stride motion (s.index - old.index)) taker new later → IsTravelRefused to old motion sink new later
+      → IsStrideRefused to s (heeded_by motion s.breakpoints) (longest_stride motion (s.index - old.index)) taker new later → IsTravelRefused to old motion sink new later
   underway-refused s new taker later under unmet step =
       let after = under.after in
       let along = step.unmet.after in
@@ -351,7 +361,7 @@ module _ {S : Type 0} (to : Giving S) (old : SessionValue) (motion : Motion) (si
 
   -- the steps take of the time that is left
   pub time-falls : (s new : SessionValue) (taker later : S) (most : ℕ) → IsSession old → IsUnderway s taker
-      → is_late s.setting s.index ≡ false → HasStrode to.took s most taker new later
+      → is_late s.setting s.index ≡ false → HasStrode to.took s (heeded_by motion s.breakpoints) most taker new later
       → limit new.setting - (now_at new.setting new.index).time < limit s.setting - (now_at s.setting s.index).time
   time-falls s new taker later most facts under early one =
       let setting : s.setting ≡ old.setting = ap (λ (t : SessionValue). t.setting) under.session in
@@ -361,7 +371,7 @@ module _ {S : Type 0} (to : Giving S) (old : SessionValue) (motion : Motion) (si
       let next : s.index + suc (one.last - s.index) ≡ one.last + 1 = omega arith in
       let open_yet : is_late old.setting s.index ≡ false = ap (λ given. is_late given s.index) (sym setting) ∙ early in
       let before = early-time old.setting s.index open_yet in
-      let seen = subst (λ (given : Setting). MeetNothing given s.breakpoints s.index one.last) setting one.unmet in
+      let seen = subst (λ (given : Setting). MeetNothing given (heeded_by motion s.breakpoints) s.index one.last) setting one.unmet in
       let longer = times-grow old.setting s.index (suc (one.last - s.index)) (open-so-far s taker facts under)
       (λ earlier after less. seen.goes earlier after (omega arith)) in
       let falls : limit old.setting - (now_at old.setting (s.index + suc (one.last - s.index))).time

@@ -21,7 +21,7 @@ session_view inside = record {
   setting = session_setting inside;
   index = inside.board.value.state.now.steps;
   furthest = inside.furthest;
-  breakpoints = inside.breakpoints.items;
+  breakpoints = inside.breakpoints;
   slots = map mark_of inside.slots.items;
   due = inside.board.value.state.due;
   made = inside.board.value.made;
@@ -55,4 +55,4 @@ pub record IsInsideRight (inside : Inside) : Type 0 where
   pub unasked : inside.board.value.state.asked ≡ 0
   pub standing : IsStanding (session_setting inside) inside.board.value.state.now inside.history inside.furthest inside.checkpoints
   pub slots : AreSlotsRight (session_setting inside) inside.furthest inside.slots.items
-  pub breakpoints : length inside.breakpoints.items ≤ most_breakpoints
+  pub breakpoints : length inside.breakpoints ≤ most_breakpoints

@@ -1,8 +1,8 @@
 pub mod Running
 pub mod RunningLaws
 pub mod Past
-pub mod Told
 pub mod Session
+pub mod Breakpoints
 pub mod SessionProofs
 pub mod SessionLaws
 pub mod Motions

@@ -1,6 +1,6 @@
 -- For proofs: what proofs say of the definitions of Motions.antt.
 use Rattle.pac_debug_session.specs.declared.motion.MotionEnd.{MotionEnd}
-use Rattle.std.specs.Prelude.{Option, Some, None, Result, Ok, Err, max, ◌+◌, ◌≡◌, Bool, true, false, not, ◌++◌, ◌⊎◌, ℕ, ◌-◌}
+use Rattle.std.specs.Prelude.{Option, Some, None, Result, Ok, Err, ◌≡◌, not, ◌++◌, ◌⊎◌, ℕ, ◌-◌}
 use Rattle.pac_board_course.specs.Stop.{Stop}
 use Rattle.pac_debug_session.specs.declared.motion.MotionEnd.TheVariants.{AtStop}
 use Rattle.pac_board_course.specs.SinksLaws.{Giving}
@@ -8,15 +8,9 @@ use Rattle.pac_debug_session.specs.Session.{SessionValue}
 use Rattle.pac_debug_session.specs.declared.motion.Motion.{Motion}
 use Rattle.pac_debug_session.specs.Motions.{HasTravelled, moved_to, IsBack, IsTooOld}
 use Rattle.pac_debug_session.specs.MotionsLaws.{IsTravelRefused, IsOutcome, IsFinishRefused}
-use Rattle.pac_board_course.specs.Step.{Next, Goes, Ends}
-use Rattle.pac_board_course.specs.BoardView.{BoardView}
-use Rattle.pac_board_course.specs.Due.{Due}
-use Rattle.pac_board_course.specs.State.{steps_counted, nothing_due}
-use Rattle.pac_board_course.specs.Once.{Once}
-use Rattle.pac_debug_session.specs.Running.{next_at, now_at, IsLeast, goes_at}
+use Rattle.pac_board_course.specs.State.{steps_counted}
+use Rattle.pac_debug_session.specs.Running.{IsLeast, goes_at}
 use Rattle.pac_debug_session.specs.SessionLaws.{session_due_outputs, IsSessionOfferRefused, session_at_command}
-use Rattle.pac_board_course.specs.CallsLaws.{outputs_in, once_at}
-use Rattle.pac_debug_session.specs.SessionProofs.{SessionOffers}
 use Rattle.pac_board_course.specs.Output.{Output}
 use Rattle.pac_board_course.specs.declared.outcome.Outcome.{Outcome}
 use Rattle.pac_board_course.specs.Sinks.{TookAll}
@@ -30,23 +24,6 @@ stop_of why = None
 abbrev pub Travels : {S E : Type 0} → Giving S → SessionValue → Motion → S → Result MotionEnd E → SessionValue → S → Type 0
 Travels to old motion sink (Ok why) new later = HasTravelled to.took old motion sink why new later
 Travels to old motion sink (Err refusal) new later = IsTravelRefused to old motion sink new later
-
--- what a step comes to, with its outputs due; a stop changes nothing
-abbrev pub session_after_step : Next BoardView → SessionValue → Due → SessionValue
-session_after_step (Goes now outputs kind) s due =
-    record s { index = s.index + 1; furthest = max s.furthest (s.index + 1); due = due; made = steps_counted s.made 1 }
-session_after_step (Ends stop) s due = s
-
-pub record MakesStep (old : SessionValue) (once : Once) (new : SessionValue) : Type 0 where
-  pub session : new ≡ session_after_step (next_at old.setting old.index) old new.due
-  pub outputs : session_due_outputs new ≡ outputs_in (next_at old.setting old.index)
-  pub once_is : once ≡ once_at (next_at old.setting old.index) (now_at old.setting old.index).time
-
--- what is due is offered where it is fresh; what isn't was taken before, and is let go
-abbrev pub PassesOn : {S A E : Type 0} → Giving S → Bool → SessionValue → S → Result A E → SessionValue → S → Type 0
-PassesOn to true old sink result new later = SessionOffers to old sink result new later
-PassesOn to false old sink (Ok done) new later = (new ≡ record old { due = nothing_due }) × (later ≡ sink)
-PassesOn to false old sink (Err refusal) new later = ⊥
 
 -- The session is brought to the end of its run: the sink took what was due, and what the run gives from the furthest index on.
 pub record IsFinished {S : Type 0} (took : S → Output → S → Type 0) (old : SessionValue) (sink : S) (outcome : Outcome)

@@ -59,8 +59,7 @@ impl Session {
     {
         self.facts();
         'again: while self.index() < index {
-            self.make_steps(index - self.index());
-            self.let_go();
+            self.leap_again(index - self.index(), false);
         }
     }
 }

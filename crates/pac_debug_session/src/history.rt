@@ -1,21 +1,18 @@
 //! The steps that were done last.
 
-ghost use Rattle.std.specs.Prelude.{◌≡◌, ◌≤◌, ◌<◌, ◌+◌, ◌*◌, ◌^◌, [], ◌∷◌, ◌++◌, IfOk, length, slice_get, Some, min};
-ghost use Rattle.circular_buffer.specs.Buffer.{keep_last};
+ghost use Rattle.std.specs.Prelude.{◌≡◌, ◌≤◌, ◌<◌, ◌*◌, [], IfOk, length, slice_get, Some, min};
 ghost use Rattle.pac_board_course.specs.Course.{next_in};
 ghost use Rattle.pac_board_course.specs.Frames.{frame_end};
 ghost use Rattle.pac_board_course.specs.SinksLaws.{by};
 ghost use Rattle.pac_board_course.specs.State as state;
 ghost use Rattle.pac_board_course.specs.Step.{frame_ticks};
 ghost use Rattle.pac_board_course.specs.Stretches.{most_frames, total_frames};
+ghost use Rattle.pac_board_course.specs.Stops.{PassesBy};
 ghost use Rattle.pac_board_course.specs.Told.{PlaysTold};
 ghost use Rattle.pac_board_course.specs.Trails.{IsNoted};
-ghost use Rattle.pac_debug_session.specs.Told.{told_after, halted_steps};
 ghost use Rattle.pac_debug_session.specs.Past.{told_step_count};
 
-use pac_board_course::{
-    Board, Once, PastStep, Refused, Script, Sink, StepKind, Stop, Trail, play_told,
-};
+use pac_board_course::{Board, PastStep, Refused, Script, Sink, Stop, Stops, Trail, go};
 use std::alloc::{AllocError, Global};
 use std::marker::Model;
 
@@ -48,51 +45,14 @@ impl History {
         })
     }
 
-    /// Adds a step after the others, and keeps the last 256.
-    #[inline]
-    pub fn push(&mut self, step: PastStep)
-        ensures { self.new ≡ keep_last told_step_count (self.old ++ step ∷ []) }
-    {
-        self.told.push(step);
-    }
-
-    /// Adds what a step from an index and an address was, unless it was a stop.
-    #[inline]
-    pub fn tell(&mut self, index: u64, pc: u16, once: &Once)
-        ensures { self.new ≡ told_after self.old index pc once.now }
-    {
-        if let Once::Stepped { kind, .. } = once {
-            self.push(PastStep {
-                index,
-                pc,
-                kind: *kind,
-            });
-        }
-    }
-
-    /// Adds so many halted steps from an index on, at one address.
-    pub fn tell_halted(&mut self, index: u64, pc: u16, count: u64)
-        requires { index + count < 2 ^ 64 }
-        ensures { self.new ≡ keep_last told_step_count (self.old ++ halted_steps index pc count) }
-    {
-        // (no more than 256 are told, which is what is told before the first of them)
-        self.len();
-        'telling: for number in 0..count {
-            self.push(PastStep {
-                index: index + number,
-                pc,
-                kind: StepKind::Halted,
-            });
-        }
-    }
-
-    /// Does the steps of a script's run on a board that begin before a limit, and before the blank of the frame under way, and adds each
-    /// of them.
-    pub fn play_told<S: Sink>(
+    /// Does the steps of a script's run on a board that begin before a limit, and before the blank of the frame under way, none but the
+    /// first where it is to stop, and adds each of them.
+    pub fn go<S: Sink>(
         &mut self,
         board: &mut Board,
         script: &Script,
         limit: u64,
+        stops: &Stops<'_>,
         sink: &mut S,
     ) -> Result<Option<Stop>, Refused>
         requires time { frame_ticks * total_frames script.now ≤ state.latest }
@@ -106,8 +66,10 @@ impl History {
         ensures told { IsNoted (next_in (record { board = board.old; script = script.now; gone = 0 }))
             (min limit (frame_end (record { board = board.old; script = script.now; gone = 0 })))
             board.old.state.now board.new.state.now (Some self.old) (Some self.new) }
+        ensures passes { PassesBy (next_in (record { board = board.old; script = script.now; gone = 0 })) stops.now
+            board.old.state.now board.new.state.now.steps }
     {
-        play_told(board, script, 0, limit, &mut self.told, sink)
+        go(board, script, 0, limit, stops, &mut self.told, sink)
     }
 
     /// Writes another history's steps over its own. Takes no memory.

@@ -3,6 +3,7 @@
 #![tactic(auto)]
 
 mod back;
+mod breakpoints;
 mod checkpoints;
 mod history;
 mod kept;
@@ -10,11 +11,11 @@ pub mod laws;
 mod leap;
 mod motion;
 mod playing;
-mod rest;
 mod session;
 mod silent;
 mod travel;
 
+pub use breakpoints::Full;
 pub use motion::{Motion, MotionEnd};
 pub use pac_board_course::{Outcome, PastStep};
-pub use session::{Empty, Full, Session, SessionRefused};
+pub use session::{Empty, Session, SessionRefused};

@@ -3,7 +3,7 @@
 ghost use Rattle.std.specs.Prelude.{◌≡◌};
 ghost use Rattle.pac_debug_session.specs.Motions.{motion_ending};
 ghost use Rattle.pac_debug_session.specs.MotionsProofs.{stop_of};
-ghost use Rattle.pac_debug_session.specs.Strides.{longest_stride};
+ghost use Rattle.pac_debug_session.specs.Strides.{heeds, longest_stride};
 
 use crate::travel::CHECKPOINT_STEPS;
 use pac_board_course::Stop;
@@ -34,6 +34,19 @@ impl Motion {
         match self {
             Motion::Steps(count) => u64::from(count).saturating_sub(gone),
             _ => CHECKPOINT_STEPS,
+        }
+    }
+
+    /// Whether breakpoints are heeded.
+    #[inline]
+    pub(crate) fn heeds(self) -> bool
+        ensures { result ≡ heeds self }
+    {
+        match self {
+            Motion::Steps(_) => false,
+            Motion::Continue => true,
+            Motion::Frames(_) => true,
+            Motion::ToEnd => false,
         }
     }
 

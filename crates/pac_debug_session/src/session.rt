@@ -14,10 +14,10 @@ ghost use Rattle.pac_debug_session.specs.Motions.{checkpoint_count, session_with
 ghost use Rattle.pac_debug_session.specs.MotionsProofs.{ReturnsTo};
 ghost use Rattle.pac_debug_session.specs.Playing.{course_of};
 
+use crate::breakpoints::{Breakpoints, Full};
 use crate::checkpoints::Checkpoints;
 use crate::history::History;
 use crate::kept::SlotContents;
-use arrayvec::ArrayVec;
 use pac_board_course::{Board, Course, FRAME_TICKS, PastStep, Script, hold};
 use std::alloc::{AllocError, Global};
 use std::marker::Model;
@@ -36,7 +36,7 @@ pub struct Session {
     pub(crate) switches: u8,
     pub(crate) limit: u64,
     pub(crate) furthest: u64,
-    pub(crate) breakpoints: ArrayVec<u16, 64>,
+    pub(crate) breakpoints: Breakpoints,
     pub(crate) history: History,
     pub(crate) checkpoints: Checkpoints,
     pub(crate) slots: Vec<SlotContents>,
@@ -97,15 +97,16 @@ fn empty_slots(alloc: Global, board: &Board) -> Result<Vec<SlotContents>, AllocE
 fn room(
     alloc: Global,
     board: &Board,
-) -> Result<(History, Checkpoints, Vec<SlotContents>), AllocError>
+) -> Result<(History, Checkpoints, Vec<SlotContents>, Breakpoints), AllocError>
     ensures { IfOk result (λ room. (room.0 ≡ []) × (room.1.taken ≡ 0)
         × (length room.1.kept ≡ checkpoint_count)
-        × (length room.2.items ≡ slot_count) × AreEmpty room.2.items) }
+        × (length room.2.items ≡ slot_count) × AreEmpty room.2.items × (room.3 ≡ [])) }
 {
     let history = History::new(alloc)?;
     let checkpoints = Checkpoints::new(alloc, board)?;
     let slots = empty_slots(alloc, board)?;
-    Ok((history, checkpoints, slots))
+    let breakpoints = Breakpoints::new(alloc)?;
+    Ok((history, checkpoints, slots, breakpoints))
 }
 
 impl Session {
@@ -126,7 +127,7 @@ impl Session {
         ensures refused { IfErr result
             (λ refused. (refused.board ≡ board) × (refused.script ≡ script)) }
     {
-        let Ok((history, checkpoints, slots)) = room(alloc, &board) else {
+        let Ok((history, checkpoints, slots, breakpoints)) = room(alloc, &board) else {
             return Err(SessionRefused { board, script });
         };
         let switches = board.peek(SWITCHES);
@@ -138,7 +139,7 @@ impl Session {
             switches,
             limit,
             furthest: 0,
-            breakpoints: ArrayVec::new(),
+            breakpoints,
             history,
             checkpoints,
             slots,
@@ -214,7 +215,7 @@ impl Session {
     pub fn has_breakpoint(&self, address: u16) -> bool
         ensures { result ≡ has_breakpoint self.now address }
     {
-        self.breakpoints.iter().any(|other| *other == address)
+        self.breakpoints.has(address)
     }
 
     /// Sets a breakpoint; a second time changes nothing. Refused where 64 others are set.
@@ -224,17 +225,14 @@ impl Session {
         if self.has_breakpoint(address) {
             return Ok(());
         }
-        match self.breakpoints.try_push(address) {
-            Ok(()) => Ok(()),
-            Err(_) => Err(Full),
-        }
+        self.breakpoints.add(address)
     }
 
     /// Takes a breakpoint away, if it is set.
     pub fn unbreak(&mut self, address: u16)
         ensures { self.new ≡ without_breakpoint self.old address }
     {
-        self.breakpoints.retain(|other| *other != address);
+        self.breakpoints.remove(address);
     }
 
     /// Keeps this index in a slot, 0 to 3.
@@ -281,10 +279,6 @@ impl Session {
         Course::taken_up(board, script, 0)
     }
 }
-
-/// There are 64 breakpoints already.
-#[derive(Clone, Copy, Debug)]
-pub struct Full;
 
 /// The slot is empty.
 #[derive(Clone, Copy, Debug)]

@@ -1,6 +1,6 @@
 //! The motions of a session.
 
-ghost use Rattle.std.specs.Prelude.{◌≡◌, ℕ, ◌+◌, ◌==◌, ◌<◌, ◌≤◌, ◌^◌, false, min, if◌then◌else◌};
+ghost use Rattle.std.specs.Prelude.{◌≡◌, ℕ, ◌+◌, ◌<◌, ◌≤◌, ◌^◌};
 ghost use Rattle.pac_board_course.specs.SinksLaws.{by};
 ghost use Rattle.pac_board_course.specs.State as state;
 ghost use Rattle.pac_debug_session.specs.declared.motion.Motion.TheVariants.{ToEnd};
@@ -10,16 +10,14 @@ ghost use Rattle.pac_debug_session.specs.SessionProofs.{SessionOffers};
 ghost use Rattle.pac_debug_session.specs.SessionLaws.{session_at_command};
 ghost use Rattle.pac_debug_session.specs.Session.{breaks_at};
 ghost use Rattle.pac_debug_session.specs.Motions.{has_met, RestsBy};
-ghost use Rattle.pac_debug_session.specs.MotionsProofs.{Travels, MakesStep, PassesOn, FinishesRun};
+ghost use Rattle.pac_debug_session.specs.MotionsProofs.{Travels, FinishesRun};
 ghost use Rattle.pac_debug_session.specs.MotionsLaws.{IsOutcome};
-ghost use Rattle.pac_debug_session.specs.Strides.{StepsOn};
 
 use crate::checkpoints::Checkpoints;
 use crate::history::History;
 use crate::motion::{Motion, MotionEnd};
 use crate::session::Session;
-use crate::silent::Silent;
-use pac_board_course::{Board, FRAME_TICKS, Once, Outcome, Refused, Sink, Stop, play_step};
+use pac_board_course::{Board, FRAME_TICKS, Outcome, Refused, Sink};
 
 /// The steps from one checkpoint to the next (this profile).
 pub const CHECKPOINT_STEPS: u64 = 4096;
@@ -33,16 +31,6 @@ pub(crate) fn take_at(checkpoints: &mut Checkpoints, index: u64, board: &Board, 
     if index % CHECKPOINT_STEPS == 0 && index / CHECKPOINT_STEPS == checkpoints.taken() {
         checkpoints.take(board, history);
     }
-}
-
-/// So many steps, and where the furthest index lies ahead no more than up to it, so that what they give is all fresh or all told before.
-fn bounded(most: u64, ahead: u64) -> u64
-    ensures { result ≡ (if ahead == 0 then most else min most ahead) }
-{
-    if ahead == 0 {
-        return most;
-    }
-    most.min(ahead)
 }
 
 impl Session {
@@ -99,80 +87,6 @@ impl Session {
         }
     }
 
-    /// One step of the run, whose outputs are due then; a checkpoint is taken where the session leaves its index for the first time.
-    pub(crate) fn make_step(&mut self) -> Once
-        requires nothing { self.old.due ≡ state.nothing_due }
-        requires early { is_late self.old.setting self.old.index ≡ false }
-        ensures { MakesStep self.old result self.new }
-    {
-        let index = self.board.steps();
-        let pc = self.board.regs().pc;
-        take_at(&mut self.checkpoints, index, &self.board, &self.history);
-        let Ok(once) = play_step(&mut self.board, &self.script, 0) else {
-            unreachable!();
-        };
-        self.history.tell(index, pc, &once);
-        self.furthest = self.furthest.max(self.board.steps());
-        once
-    }
-
-    /// Offers what is due to a sink.
-    fn give<S: Sink>(&mut self, sink: &mut S) -> Result<(), Refused>
-        ensures { SessionOffers (by S.took S.refused) self.old sink.old result self.new sink.new }
-    {
-        self.board.offer(sink)
-    }
-
-    /// Lets go of what is due: it was taken before.
-    pub(crate) fn let_go(&mut self)
-        ensures { self.new ≡ record self.old { due = state.nothing_due } }
-    {
-        let Ok(()) = self.board.offer(&mut Silent) else {
-            unreachable!();
-        };
-    }
-
-    /// Offers what is due to a sink where it is fresh, and lets go of it where it isn't.
-    fn pass_on<S: Sink>(&mut self, fresh: bool, sink: &mut S) -> Result<(), Refused>
-        ensures { PassesOn (by S.took S.refused) fresh self.old sink.old result self.new sink.new }
-    {
-        if fresh {
-            return self.give(sink);
-        }
-        self.let_go();
-        Ok(())
-    }
-
-    /// Does one step, or halted ones in one go, so many at most; offers what they give unless it was offered before, and answers the stop
-    /// that the run met, if any.
-    fn step_by_step<S: Sink>(&mut self, most: u64, sink: &mut S) -> Result<Option<Stop>, Refused>
-        requires nothing { self.old.due ≡ state.nothing_due }
-        requires early { is_late self.old.setting self.old.index ≡ false }
-        requires some { 1 ≤ most }
-        ensures { StepsOn (by S.took S.refused) self.old most sink.old result self.new sink.new }
-    {
-        self.facts();
-        let ahead = self.furthest() - self.index();
-        let fresh = ahead == 0;
-        let stop = self.make_steps(bounded(most, ahead));
-        self.pass_on(fresh, sink)?;
-        Ok(stop)
-    }
-
-    /// Does steps of any kind in one go where no breakpoint is set, and else as `step_by_step`, so many at most; answers the stop that the
-    /// run met, if any.
-    fn step_on<S: Sink>(&mut self, most: u64, sink: &mut S) -> Result<Option<Stop>, Refused>
-        requires nothing { self.old.due ≡ state.nothing_due }
-        requires early { is_late self.old.setting self.old.index ≡ false }
-        requires some { 1 ≤ most }
-        ensures { StepsOn (by S.took S.refused) self.old most sink.old result self.new sink.new }
-    {
-        if self.breakpoints.is_empty() {
-            return self.stride(most, sink);
-        }
-        self.step_by_step(most, sink)
-    }
-
     /// Goes forwards to where a motion rests, and says why it rests there. What the steps past the furthest index give is offered;
     /// a refusal ends the motion after the step that gave the refused output.
     pub fn travel<S: Sink>(&mut self, motion: Motion, sink: &mut S) -> Result<MotionEnd, Refused>
@@ -190,7 +104,7 @@ impl Session {
                 return Ok(motion.word(self.breaks()));
             }
             let most = motion.longest_stride(self.index() - from);
-            if let Some(stop) = self.step_on(most, sink)? {
+            if let Some(stop) = self.stride(most, motion.heeds(), sink)? {
                 return Ok(MotionEnd::AtStop(stop));
             }
         }

@@ -10,3 +10,4 @@ pub mod Trails
 pub mod Notes
 pub mod Noted
 pub mod Noting
+pub mod Passing

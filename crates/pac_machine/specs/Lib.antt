@@ -5,5 +5,6 @@ pub mod Events
 pub mod Bursts
 pub mod BurstsProofs
 pub mod Trails
+pub mod Stops
 pub mod Fields
 pub use Rattle.pac_wave.specs.Wave

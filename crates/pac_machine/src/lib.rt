@@ -9,6 +9,7 @@ mod machine;
 mod note;
 mod ring;
 mod sockets;
+mod stops;
 mod timing;
 mod trail;
 
@@ -16,5 +17,6 @@ pub use due::Due;
 pub use fields::{Fields, MOST_ASKED};
 pub use frozen::Frozen;
 pub use machine::Machine;
+pub use stops::{Marks, Stops};
 pub use timing::{FRAME_SAMPLES, FRAME_TICKS, SAMPLE_TICKS};
 pub use trail::{PastStep, Trail};

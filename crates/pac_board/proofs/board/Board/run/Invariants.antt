@@ -1,14 +1,19 @@
--- The loop goes along its walk, and tells its steps.
-use Rattle.std.proofs.Common.{◌-◌}
+-- The loop goes along its walk, and tells its steps, none of which but the first began where it was to stop; nor would the next one.
+use Rattle.std.proofs.Common.{◌+◌, ◌-◌, ◌≤◌}
+use Rattle.pac_board_model.specs.Step.{step}
+use Rattle.pac_board_model.specs.Trace.{by_view}
+use Rattle.pac_machine.specs.Stops.{PassesBy}
 use Rattle.pac_board.specs.Stretches.{IsTold}
 use Rattle.pac_board.proofs.Turns.{IsUnderway}
 use Rattle.pac_board.proofs.board.Board.run.Given as goal
 
 abbrev pub invariant-loop-self : goal.invariant-loop-self
 invariant-loop-self g l = record {
-  made : IsUnderway g.S.Sink.took l.initial.self l.end l.initial.sink l.self l.sink;
-  told : IsTold l.initial.self l.end l.self l.initial.told l.told;
+  made : IsUnderway g.S.Sink.took l.initial.self l.limit l.initial.sink l.self l.sink;
+  told : IsTold l.initial.self l.limit l.self l.initial.told l.told;
+  passes : PassesBy (step (by_view l.initial.self.set)) l.stops l.initial.self.state.now (l.self.state.now.steps + 1);
+  after : l.initial.self.state.now.time ≤ l.self.state.now.time;
 }
 
 abbrev pub decreases-loop-self : goal.decreases-loop-self
-decreases-loop-self g l = l.end - l.self.state.now.time
+decreases-loop-self g l = l.limit - l.self.state.now.time

@@ -60,12 +60,12 @@ returns c =
     let found : get_or old.slots c.args.slot None ≡ Some index
     = ap (λ (s : SessionValue). get_or s.slots c.args.slot None) (sym c.self.view_is)
     ∙ mark-at (session_setting inside) inside.furthest inside.slots.items c.args.slot slot less at ∙ full.mark in
-    let value : with_board inside.switches inside.script c.put_back.new.board inside.furthest inside.breakpoints.items marks inside.replayed
+    let value : with_board inside.switches inside.script c.put_back.new.board inside.furthest inside.breakpoints marks inside.replayed
     ≡ record old { index = index }
     = value-there inside.switches inside.script inside.board.value c.put_back.new.board c.put_back.new.history slot.kept inside.furthest
-    back c.put_back.ensures.history inside.breakpoints.items marks inside.replayed index refl full.kept.nothing
+    back c.put_back.ensures.history inside.breakpoints marks inside.replayed index refl full.kept.nothing
     ∙ ap (λ (s : SessionValue). record s { index = index; due = nothing_due }) c.self.view_is
     ∙ ap (λ due. record old { index = index; due = due }) (sym c.requires.nothing) in
     subst (λ (mark : Option ℕ). ReturnsTo {E = Empty} old mark (Ok tt)
-    (with_board inside.switches inside.script c.put_back.new.board inside.furthest inside.breakpoints.items marks inside.replayed))
+    (with_board inside.switches inside.script c.put_back.new.board inside.furthest inside.breakpoints marks inside.replayed))
     (sym found) value

@@ -44,8 +44,8 @@ returns c =
     let board = inside.board.value in
     let kept : c.write.new.self ≡ kept_of board inside.history
     = c.write.ensures ∙ ap (λ (b : BoardValue). kept_of b inside.history) c.deref.ensures in
-    ap (λ (k : SessionSnapshot). with_board inside.switches inside.script board inside.furthest inside.breakpoints.items
+    ap (λ (k : SessionSnapshot). with_board inside.switches inside.script board inside.furthest inside.breakpoints
     (map mark_of (set inside.slots.items c.args.slot (record { kept = k; filled = true }))) inside.replayed) kept
-    ∙ ap (λ (marks : List (Option ℕ)). with_board inside.switches inside.script board inside.furthest inside.breakpoints.items marks
+    ∙ ap (λ (marks : List (Option ℕ)). with_board inside.switches inside.script board inside.furthest inside.breakpoints marks
     inside.replayed) (map-set mark_of inside.slots.items c.args.slot (record { kept = kept_of board inside.history; filled = true }))
     ∙ ap (λ (s : SessionValue). session_with_slot s c.args.slot) c.self.view_is

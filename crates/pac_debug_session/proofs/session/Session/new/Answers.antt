@@ -15,7 +15,7 @@ invariant_of-result c =
     let count = c.frames.ensures.count in
     let within = c.frames.ensures.within in
     let frames = c.from-limit.ensures in
-    let none : c.new.result.items ≡ [] = c.new.ensures in
+    let none : c.in-Ok.breakpoints ≡ [] = c.in-Ok.ensures.5 in
     record {
       limit = ap (λ n. 50688 * n) (frames ∙ count);
       short = omega arith;
@@ -34,7 +34,7 @@ returns-clause-session c =
     let board = c.args.board.value in
     let switches : c.peek-switches.result ≡ board.state.now.board.memory.switches = search rules in
     let hold : c.hold.new.board ≡ board_with_inputs board (held c.args.script 1) = search rules in
-    let none : c.new.result.items ≡ [] = c.new.ensures in
+    let none : c.in-Ok.breakpoints ≡ [] = c.in-Ok.ensures.5 in
     ap (λ breakpoints. with_board c.peek-switches.result c.args.script c.hold.new.board 0 breakpoints (map mark_of c.in-Ok.slots.items) 0)
     none
     ∙ value-first board c.hold.new.board c.args.script c.peek-switches.result switches c.requires hold c.in-Ok.slots.items

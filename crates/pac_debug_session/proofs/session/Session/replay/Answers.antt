@@ -1,5 +1,5 @@
 -- Steps that are done again lead where they led.
-use Rattle.std.proofs.Common.{◌-◌, arith}
+use Rattle.std.proofs.Common.{◌-◌, [], arith}
 use Rattle.pac_debug_session.proofs.Backwards.{replayed-on}
 use Rattle.pac_debug_session.proofs.session.Session.replay.Goals as goal
 
@@ -13,8 +13,8 @@ again-preserved c =
     let after = c.again.invariant.after in
     let most = c.args.index - c.index-in-again.result in
     let again = c.index-in-again.ensures in
-    let done = replayed-on old s c.make_steps.new.self c.let_go.new.self most c.facts.ensures c.again.invariant.session after
-    (omega arith) c.let_go.ensures c.requires.nothing c.make_steps.result (omega arith) c.make_steps.ensures in
+    let done = replayed-on old s c.leap_again.new.self [] most c.facts.ensures c.again.invariant.session after
+    (omega arith) c.requires.nothing c.leap_again.result (omega arith) c.leap_again.ensures in
     let later = done.later in
     let near = done.near in
     record {
@@ -33,8 +33,8 @@ again-smaller c =
     let after = c.again.invariant.after in
     let most = c.args.index - c.index-in-again.result in
     let again = c.index-in-again.ensures in
-    let done = replayed-on old s c.make_steps.new.self c.let_go.new.self most c.facts.ensures c.again.invariant.session after
-    (omega arith) c.let_go.ensures c.requires.nothing c.make_steps.result (omega arith) c.make_steps.ensures in
+    let done = replayed-on old s c.leap_again.new.self [] most c.facts.ensures c.again.invariant.session after
+    (omega arith) c.requires.nothing c.leap_again.result (omega arith) c.leap_again.ensures in
     let later = done.later in
     let near = done.near in
     omega arith

@@ -64,6 +64,6 @@ returns c =
     stands-at (session_setting inside) inside.furthest inside.board.value.state.now inside.history ring
     (checkpoint_steps * c.args.number) kept c.self.invariant.standing at (omega arith) in
     value-there inside.switches inside.script inside.board.value c.put_back.new.board c.put_back.new.history kept inside.furthest
-    back c.put_back.ensures.history inside.breakpoints.items (map mark_of inside.slots.items) inside.replayed
+    back c.put_back.ensures.history inside.breakpoints (map mark_of inside.slots.items) inside.replayed
     (checkpoint_steps * c.args.number) there.1 at.nothing
     ∙ ap (λ (s : SessionValue). record s { index = checkpoint_steps * c.args.number; due = nothing_due }) c.self.view_is

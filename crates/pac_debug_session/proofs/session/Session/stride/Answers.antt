@@ -3,6 +3,7 @@ use Rattle.std.proofs.Common.{◌≡◌, nat_lt, if◌then◌else◌, None, Opti
 use Rattle.pac_board_course.specs.Refused.{Refused}
 use Rattle.pac_board_course.specs.SinksLaws.{by}
 use Rattle.pac_board_course.specs.Stop.{Stop}
+use Rattle.pac_debug_session.specs.Breakpoints.{heeded_if}
 use Rattle.pac_debug_session.specs.Strides.{StepsOn}
 use Rattle.pac_debug_session.proofs.Leapt.{strode-on, leap-stale}
 use Rattle.pac_debug_session.proofs.session.Session.stride.Goals as goal
@@ -21,7 +22,7 @@ returns g c =
     let answer : c.unless_moved.result ≡ (if nat_lt old.index new.index then None else c.leap_again-found.result)
     = c.unless_moved.ensures ∙ ap (λ n. if nat_lt n c.index.result then None else c.leap_again-found.result) c.index-index.ensures
     ∙ ap (λ n. if nat_lt old.index n then None else c.leap_again-found.result) c.index.ensures in
-    subst (λ (found : Option Stop). StepsOn {E = Refused} to old c.args.most c.args.sink.now (Ok found) new c.args.sink.now) (sym answer)
-    (strode-on old new c.facts.ensures c.requires.nothing Refused to c.args.most c.min.result c.args.sink.now c.args.sink.now
+    subst (λ (found : Option Stop). StepsOn {E = Refused} to old (heeded_if c.args.heeds old.breakpoints) c.args.most c.args.sink.now (Ok found) new c.args.sink.now) (sym answer)
+    (strode-on old new c.facts.ensures c.requires.nothing Refused to (heeded_if c.args.heeds old.breakpoints) c.args.most c.min.result c.args.sink.now c.args.sink.now
     c.leap_again-found.result (omega arith) leapt
     (leap-stale old new c.facts.ensures c.requires.nothing to c.args.sink.now leapt.count (omega arith) leapt.session))

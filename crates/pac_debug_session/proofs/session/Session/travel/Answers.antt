@@ -7,7 +7,8 @@ use Rattle.pac_board_course.specs.Refused.{Refused}
 use Rattle.pac_debug_session.specs.declared.motion.MotionEnd.{MotionEnd}
 use Rattle.pac_debug_session.specs.Motions.{has_met, HasTravelled, motion_ending}
 use Rattle.pac_debug_session.specs.Running.{is_late}
-use Rattle.pac_debug_session.specs.Strides.{HasStrode, IsStrideRefused, StepsOn, longest_stride}
+use Rattle.pac_debug_session.specs.Breakpoints.{heeded_if}
+use Rattle.pac_debug_session.specs.Strides.{HasStrode, IsStrideRefused, StepsOn, heeded_by, longest_stride}
 use Rattle.pac_debug_session.proofs.Travelled.{underway-begins, underway-more, underway-late, underway-met, underway-stopped}
 use Rattle.pac_debug_session.proofs.Travelled.{underway-refused, may-stride, time-falls}
 use Rattle.pac_debug_session.proofs.session.Session.travel.Goals as goal
@@ -22,8 +23,8 @@ onwards-init g c = record {
   bound = c.blanks-blanks.ensures.bound;
 }
 
-pub step_on-requires-clause-some : goal.step_on-requires-clause-some
-step_on-requires-clause-some g c =
+pub stride-requires-clause-some : goal.stride-requires-clause-some
+stride-requires-clause-some g c =
     let old = c.args.self.now in
     let s = c.onwards.self in
     let unmet : has_met s c.args.motion old.index s.index ≡ false
@@ -44,14 +45,17 @@ onwards-preserved g c =
     let gone : c.index.result - c.index-from.result ≡ s.index - old.index
     = ap (λ n. n - c.index-from.result) c.index.ensures ∙ ap (λ n. s.index - n) c.onwards.invariant.from_is in
     let most = c.longest_stride-most.ensures ∙ ap (longest_stride c.args.motion) gone in
-    let strode : HasStrode g.S.Sink.took s c.longest_stride-most.result c.onwards.sink c.step_on.new.self c.step_on.new.sink
-    = subst (λ (found : Option Stop). StepsOn {E = Refused} (by g.S.Sink.took g.S.Sink.refused) s c.longest_stride-most.result
-    c.onwards.sink (Ok found) c.step_on.new.self c.step_on.new.sink) c.in_default.is c.in_ok-stop.ensures in
+    let strode : HasStrode g.S.Sink.took s (heeded_by c.args.motion s.breakpoints) c.longest_stride-most.result c.onwards.sink
+    c.stride.new.self c.stride.new.sink
+    = subst (λ (found : Option Stop). StepsOn {E = Refused} (by g.S.Sink.took g.S.Sink.refused) s (heeded_by c.args.motion s.breakpoints) c.longest_stride-most.result
+    c.onwards.sink (Ok found) c.stride.new.self c.stride.new.sink) c.in_default.is
+    (subst (λ b. StepsOn {E = Refused} (by g.S.Sink.took g.S.Sink.refused) s (heeded_if b s.breakpoints) c.longest_stride-most.result
+    c.onwards.sink (Ok c.in_ok-stop.field-0) c.stride.new.self c.stride.new.sink) c.heeds.ensures c.in_ok-stop.ensures) in
     record {
       under =
-          underway-more (by g.S.Sink.took g.S.Sink.refused) old c.args.motion c.args.sink.now s c.step_on.new.self c.onwards.sink
-          c.step_on.new.sink c.onwards.invariant.under unmet
-          (subst (λ (n : ℕ). HasStrode g.S.Sink.took s n c.onwards.sink c.step_on.new.self c.step_on.new.sink) most strode);
+          underway-more (by g.S.Sink.took g.S.Sink.refused) old c.args.motion c.args.sink.now s c.stride.new.self c.onwards.sink
+          c.stride.new.sink c.onwards.invariant.under unmet
+          (subst (λ (n : ℕ). HasStrode g.S.Sink.took s (heeded_by c.args.motion s.breakpoints) n c.onwards.sink c.stride.new.self c.stride.new.sink) most strode);
       from_is = c.onwards.invariant.from_is;
       blanks_is = c.onwards.invariant.blanks_is;
       bound = c.onwards.invariant.bound;
@@ -61,10 +65,12 @@ pub onwards-smaller : goal.onwards-smaller
 onwards-smaller g c =
     let s = c.onwards.self in
     let early : is_late s.setting s.index ≡ false = sym c.is_late.ensures ∙ c.if-is_late.false in
-    time-falls (by g.S.Sink.took g.S.Sink.refused) c.args.self.now c.args.motion c.args.sink.now s c.step_on.new.self c.onwards.sink
-    c.step_on.new.sink c.longest_stride-most.result c.facts.ensures c.onwards.invariant.under early
-    (subst (λ (found : Option Stop). StepsOn {E = Refused} (by g.S.Sink.took g.S.Sink.refused) s c.longest_stride-most.result
-    c.onwards.sink (Ok found) c.step_on.new.self c.step_on.new.sink) c.in_default.is c.in_ok-stop.ensures)
+    time-falls (by g.S.Sink.took g.S.Sink.refused) c.args.self.now c.args.motion c.args.sink.now s c.stride.new.self c.onwards.sink
+    c.stride.new.sink c.longest_stride-most.result c.facts.ensures c.onwards.invariant.under early
+    (subst (λ (found : Option Stop). StepsOn {E = Refused} (by g.S.Sink.took g.S.Sink.refused) s (heeded_by c.args.motion s.breakpoints) c.longest_stride-most.result
+    c.onwards.sink (Ok found) c.stride.new.self c.stride.new.sink) c.in_default.is
+    (subst (λ b. StepsOn {E = Refused} (by g.S.Sink.took g.S.Sink.refused) s (heeded_if b s.breakpoints) c.longest_stride-most.result
+    c.onwards.sink (Ok c.in_ok-stop.field-0) c.stride.new.self c.stride.new.sink) c.heeds.ensures c.in_ok-stop.ensures))
 
 pub returns-then-is_late : goal.returns-then-is_late
 returns-then-is_late g c =
@@ -92,10 +98,12 @@ returns-in-Some g c =
     let early : is_late s.setting s.index ≡ false = sym c.is_late.ensures ∙ c.if-is_late.false in
     let unmet : has_met s c.args.motion old.index s.index ≡ false
     = ap (λ n. has_met s c.args.motion n s.index) (sym c.onwards.invariant.from_is) ∙ sym c.has_met.ensures ∙ c.if-has_met.false in
-    underway-stopped (by g.S.Sink.took g.S.Sink.refused) old c.args.motion c.args.sink.now s c.step_on.new.self c.onwards.sink
-    c.step_on.new.sink c.in-Some.stop c.onwards.invariant.under early unmet
-    (subst (λ (found : Option Stop). StepsOn {E = Refused} (by g.S.Sink.took g.S.Sink.refused) s c.longest_stride-most.result
-    c.onwards.sink (Ok found) c.step_on.new.self c.step_on.new.sink) c.in-Some.is c.in_ok-stop.ensures)
+    underway-stopped (by g.S.Sink.took g.S.Sink.refused) old c.args.motion c.args.sink.now s c.stride.new.self c.onwards.sink
+    c.stride.new.sink c.in-Some.stop c.onwards.invariant.under early unmet
+    (subst (λ (found : Option Stop). StepsOn {E = Refused} (by g.S.Sink.took g.S.Sink.refused) s (heeded_by c.args.motion s.breakpoints) c.longest_stride-most.result
+    c.onwards.sink (Ok found) c.stride.new.self c.stride.new.sink) c.in-Some.is
+    (subst (λ b. StepsOn {E = Refused} (by g.S.Sink.took g.S.Sink.refused) s (heeded_if b s.breakpoints) c.longest_stride-most.result
+    c.onwards.sink (Ok c.in_ok-stop.field-0) c.stride.new.self c.stride.new.sink) c.heeds.ensures c.in_ok-stop.ensures))
 
 pub returns-in_err-stop : goal.returns-in_err-stop
 returns-in_err-stop g c =
@@ -108,7 +116,9 @@ returns-in_err-stop g c =
     = ap (λ n. n - c.index-from.result) c.index.ensures ∙ ap (λ n. s.index - n) c.onwards.invariant.from_is in
     let most = c.longest_stride-most.ensures ∙ ap (longest_stride c.args.motion) gone in
     rw told.1
-    (underway-refused (by g.S.Sink.took g.S.Sink.refused) old c.args.motion c.args.sink.now s c.step_on.new.self c.onwards.sink
-    c.step_on.new.sink c.onwards.invariant.under unmet
-    (subst (λ (n : ℕ). IsStrideRefused (by g.S.Sink.took g.S.Sink.refused) s n c.onwards.sink c.step_on.new.self c.step_on.new.sink)
-    most c.in_err-stop.ensures))
+    (underway-refused (by g.S.Sink.took g.S.Sink.refused) old c.args.motion c.args.sink.now s c.stride.new.self c.onwards.sink
+    c.stride.new.sink c.onwards.invariant.under unmet
+    (subst (λ (n : ℕ). IsStrideRefused (by g.S.Sink.took g.S.Sink.refused) s (heeded_by c.args.motion s.breakpoints) n c.onwards.sink c.stride.new.self c.stride.new.sink)
+    most
+    (subst (λ b. IsStrideRefused (by g.S.Sink.took g.S.Sink.refused) s (heeded_if b s.breakpoints) c.longest_stride-most.result
+    c.onwards.sink c.stride.new.self c.stride.new.sink) c.heeds.ensures c.in_err-stop.ensures)))

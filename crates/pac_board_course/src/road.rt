@@ -1,9 +1,10 @@
-//! Steps of a script's run in one go, each of which is told.
+//! The way forward of a script's run: steps in one go, each of which is told.
 
 ghost use Rattle.std.specs.Prelude.{◌≡◌, ◌<◌, ◌≤◌, ◌+◌, ◌*◌, min};
 ghost use Rattle.pac_board.specs.SinksLaws.{by};
 ghost use Rattle.pac_board.specs.State as state;
 ghost use Rattle.pac_board.specs.Step.{frame_ticks};
+ghost use Rattle.pac_board.specs.Stops.{PassesBy};
 ghost use Rattle.pac_board.specs.Trails.{IsNoted};
 ghost use Rattle.pac_inputs.specs.Stretches.{most_frames, total_frames};
 ghost use Rattle.pac_board_course.specs.Course.{next_in};
@@ -11,17 +12,18 @@ ghost use Rattle.pac_board_course.specs.Frames.{frame_end};
 ghost use Rattle.pac_board_course.specs.Told.{PlaysTold};
 
 use crate::course::hold;
-use pac_board::{Board, FRAME_TICKS, Refused, Sink, Stop, Trail};
+use pac_board::{Board, FRAME_TICKS, Refused, Sink, Stop, Stops, Trail};
 use pac_inputs::Script;
 
 /// Does the steps of a script's run on a board that begin before a limit, and before the blank of the frame under way, after which the
-/// next frame's inputs are held; or up to a stop, or to a refusal of the sink. So many frames had gone by before the script's first
-/// one. Each step is told.
-pub fn play_told<S: Sink>(
+/// next frame's inputs are held; or up to a stop, to a refusal of the sink, or before a step that begins where it is to stop, unless it is the
+/// first. So many frames had gone by before the script's first one. Each step is told.
+pub fn go<S: Sink>(
     board: &mut Board,
     script: &Script,
     gone: u64,
     limit: u64,
+    stops: &Stops<'_>,
     told: &mut Trail,
     sink: &mut S,
 ) -> Result<Option<Stop>, Refused>
@@ -36,10 +38,12 @@ pub fn play_told<S: Sink>(
     ensures told { IsNoted (next_in (record { board = board.old; script = script.now; gone = gone }))
         (min limit (frame_end (record { board = board.old; script = script.now; gone = gone })))
         board.old.state.now board.new.state.now told.old told.new }
+    ensures passes { PassesBy (next_in (record { board = board.old; script = script.now; gone = gone })) stops.now
+        board.old.state.now board.new.state.now.steps }
 {
     let frame = board.time() / FRAME_TICKS + 1;
     let blank = FRAME_TICKS * frame;
-    let played = board.go_to_told(limit.min(blank), told, sink);
+    let played = board.go(limit.min(blank), stops, told, sink);
     if board.time() >= blank {
         hold(board, script.held((frame + 1).saturating_sub(gone) as u32));
     }

@@ -1,12 +1,9 @@
 -- A single step is the first of a stretch.
-use Rattle.std.proofs.Common.{inl, ◌+◌, ◌-◌, ◌<◌, ◌^◌, ap, sym, arith, rules, Option}
+use Rattle.std.proofs.Common.{◌+◌, ◌-◌, ◌<◌, ◌^◌, ap, sym, arith, rules, Option}
 use Rattle.pac_cpu.specs.declared.once.Stop.{Stop}
 use Rattle.pac_board.specs.Stretches.{IsStretched}
 use Rattle.pac_board.proofs.Singles.{single-short, steps-alone, told_once}
-use Rattle.pac_board.proofs.board.Board.go.Goals as goal
-
-pub go_on-requires-clause-whole : goal.go_on-requires-clause-whole
-go_on-requires-clause-whole c = inl (omega arith)
+use Rattle.pac_board.proofs.board.Board.do_step.Goals as goal
 
 pub overflow_sub-result : goal.overflow_sub-result
 overflow_sub-result c =

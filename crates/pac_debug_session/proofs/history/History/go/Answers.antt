@@ -9,7 +9,7 @@ use Rattle.pac_board_course.specs.Trails.{IsNoted}
 use Rattle.pac_board_course.proofs.Noted.{noted-at}
 use Rattle.pac_board_course.specs.Trails.{told_of}
 use Rattle.pac_debug_session.proofs.Histories.{some-there, noted-there}
-use Rattle.pac_debug_session.proofs.history.History.play_told.Goals as goal
+use Rattle.pac_debug_session.proofs.history.History.go.Goals as goal
 
 -- there before and after
 still-there : (next : Moment BoardView → Next BoardView) (until : ℕ) (from to : Moment BoardView) (told after : Option (List PastStep))
@@ -19,17 +19,17 @@ still-there next until from to told after is noted = ap is_some noted.told_is �
 pub invariant_of-self : goal.invariant_of-self
 invariant_of-self g c =
     let old : CourseValue = record { board = c.args.board.now; script = c.args.script.now; gone = 0 } in
-    still-there (next_in old) (min c.args.limit (frame_end old)) c.args.board.now.state.now c.play_told.new.board.state.now
+    still-there (next_in old) (min c.args.limit (frame_end old)) c.args.board.now.state.now c.go.new.board.state.now
     c.self.inside.told
-    c.play_told.new.told c.self.invariant c.play_told.ensures.told
+    c.go.new.told c.self.invariant c.go.ensures.told
 
 pub returns-clause-told : goal.returns-clause-told
 returns-clause-told g c =
     let old : CourseValue = record { board = c.args.board.now; script = c.args.script.now; gone = 0 } in
     let until = min c.args.limit (frame_end old) in
     let from = c.args.board.now.state.now in
-    let to = c.play_told.new.board.state.now in
-    let there = still-there (next_in old) until from to c.self.inside.told c.play_told.new.told c.self.invariant c.play_told.ensures.told in
-    subst (λ told. IsNoted (next_in old) until from to told (Some (told_of c.play_told.new.told))) (some-there c.self.inside.told
+    let to = c.go.new.board.state.now in
+    let there = still-there (next_in old) until from to c.self.inside.told c.go.new.told c.self.invariant c.go.ensures.told in
+    subst (λ told. IsNoted (next_in old) until from to told (Some (told_of c.go.new.told))) (some-there c.self.inside.told
     c.self.invariant ∙ ap Some c.self.view_is)
-    (noted-at (next_in old) c.play_told.ensures.told refl (sym (some-there c.play_told.new.told there)))
+    (noted-at (next_in old) c.go.ensures.told refl (sym (some-there c.go.new.told there)))

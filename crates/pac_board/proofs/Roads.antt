@@ -1,0 +1,140 @@
+-- A board's loop ends at its limit, or earlier, where it is to stop. Then its walk is the one to that time.
+use Rattle.std.proofs.Common.{◌≡◌, ℕ, zero, suc, ◌+◌, ◌<◌, ◌≤◌, nat_lt, Bool, true, false, List, Option, None, Result, Ok, Err}
+use Rattle.std.proofs.Common.{refl, sym, ap, subst, ◌∙◌, arith}
+use Rattle.std.proofs.lemmas.Bool.Decides.{nat_tests}
+use Rattle.pac_cpu.specs.declared.once.Stop.{Stop}
+use Rattle.pac_map.specs.RomParts.{Parts}
+use Rattle.pac_board_model.specs.Laws.{IsTimely}
+use Rattle.pac_board_model.specs.Output.{Output}
+use Rattle.pac_board_model.specs.Step.{Moment, Next, Goes, Ends, step}
+use Rattle.pac_board_model.specs.Trace.{by_view}
+use Rattle.pac_board_model.specs.Walk.{Walk, walk, walk_onward, walk_after_step}
+use Rattle.pac_board_model.specs.WalkLaws.{has_ended}
+use Rattle.pac_board_model.proofs.Walks.{not-both, going-before, going-steps, late-has-ended, open-goes-on, step-timely}
+use Rattle.pac_machine.specs.declared.trail.PastStep.{PastStep}
+use Rattle.pac_machine.specs.Stops.{is_stop, PassesBy}
+use Rattle.pac_machine.proofs.Passing.{passes-more}
+use Rattle.pac_board.specs.Roads.{BoardPasses, HasGoneOn, GoesOn}
+use Rattle.pac_board.specs.Sinks.{TookAll}
+use Rattle.pac_board.specs.SinksLaws.{Giving}
+use Rattle.pac_board.specs.State.{BoardValue}
+use Rattle.pac_board.specs.Stretches.{IsTold}
+use Rattle.pac_board.specs.Turns.{way_at, board_after_walk, HasGone, GoesTo}
+use Rattle.pac_board.proofs.Stretches.{has-no-stop}
+use Rattle.pac_board.proofs.Turns.{IsUnderway, ended, time-is-over}
+
+-- ---- a walk that is open at a time is also the walk to that time
+
+module _ {Board : Type 0} (next : Moment Board → Next Board) (limit : ℕ) (timely : (now : Moment Board) → IsTimely now (next now))
+    (from : Moment Board) where
+  abbrev at : ℕ → Walk Board
+  at n = walk next limit from n
+
+  -- each step takes its time
+  longer : (w : Walk Board) (h : Next Board) → IsTimely w.now h → has_ended limit (walk_after_step w h) ≡ false
+      → w.now.time < (walk_after_step w h).now.time
+  longer w (Goes now outputs kind) times going = let more = times.0 in omega arith
+  longer w (Ends stop) times going = not-both going
+
+  grows : (k : ℕ) → has_ended limit (at (suc k)) ≡ false → (at k).now.time < (at (suc k)).now.time
+  grows k going =
+      let before = going-before next limit from k (suc k) (omega arith) going in
+      let on = going-steps next limit (at k) before in
+      let one = longer (at k) (next (at k).now) (timely (at k).now) (sym (ap (has_ended limit) on) ∙ going) in
+      let time = ap (λ (w : Walk Board). w.now.time) on in
+      omega arith
+
+  earlier : (n m : ℕ) → m < n → has_ended limit (at n) ≡ false → (at m).now.time < (at n).now.time
+  earlier zero m less going = absurd (omega arith)
+  earlier (suc k) m less going =
+      here (nat_lt m k) refl (λ before. earlier k m before (going-before next limit from k (suc k) (omega arith) going))
+    where
+      here : (b : Bool) → nat_lt m k ≡ b → (m < k → (at m).now.time < (at k).now.time) → (at m).now.time < (at (suc k)).now.time
+      here true e so_far =
+          let before = so_far (grind (arith, nat_tests)) in
+          let last = grows k going in
+          omega arith
+      here false e so_far =
+          let same : m ≡ k = grind (arith, nat_tests) in
+          subst (λ j. (at j).now.time < (at (suc k)).now.time) (sym same) (grows k going)
+
+  pub walk-sooner : (n : ℕ) → has_ended limit (at n) ≡ false → (m : ℕ) → m ≤ n → walk next (at n).now.time from m ≡ at m
+  walk-sooner n going zero less = refl
+  walk-sooner n going (suc m) less =
+      let time = (at n).now.time in
+      let still = going-before next limit from m n (omega arith) going in
+      ap (walk_onward next time) (walk-sooner n going m (omega arith))
+      ∙ going-steps next time (at m) (open-goes-on time (at m) (has-no-stop (at m).stop _ still) (earlier n m (omega arith) going))
+      ∙ sym (going-steps next limit (at m) still)
+
+-- ---- the loop's ends
+
+-- one that meets a stop, or has no time left, ends at its limit
+pub gone-to-limit : {S : Type 0} {took : S → Output → S → Type 0} {start : BoardValue} {limit : ℕ} {stops : Option (List ℕ)} {sink : S}
+    {stop : Option Stop} {new : BoardValue} {later : S} → HasGone took start limit sink stop new later
+    → HasGoneOn took start limit stops sink stop new later
+gone-to-limit {limit = limit} gone =
+    record { end = limit; within = omega arith; some = λ early. early; gone = gone; early = λ less. absurd (omega arith) }
+
+module _ {S : Type 0} {took : S → Output → S → Type 0} {start : BoardValue} {limit : ℕ} {sink : S} {board : BoardValue} {taker : S}
+    (under : IsUnderway took start limit sink board taker) where
+  ends-there : board.state.now.time < limit → HasGone took start board.state.now.time sink None board taker
+  ends-there early =
+      let w = way_at start limit under.steps in
+      let time = ap (λ (b : BoardValue). b.state.now.time) under.board_is in
+      let going = open-goes-on limit w under.open_yet (omega arith) in
+      let same = walk-sooner (step (by_view start.set)) limit (step-timely (by_view start.set)) start.state.now under.steps going under.steps
+      (omega arith) in
+      let there = ap (λ (v : Walk _). v.now.time) same in
+      subst (λ t. HasGone took start t sink None board taker) (sym time)
+      (ended took start w.now.time sink under.steps None board taker
+      (late-has-ended w.now.time (way_at start w.now.time under.steps) (omega arith))
+      (ap (λ (v : Walk _). v.stop) same ∙ under.open_yet) (under.board_is ∙ sym (ap (board_after_walk start) same))
+      (subst (λ (v : Walk _). TookAll took sink v.outputs taker) (sym same) under.sink_is))
+
+  -- one that stands where it is to stop ends there
+  pub gone-to-stop : (stops : Option (List ℕ)) → start.state.now.time < board.state.now.time
+      → is_stop stops board.state.now.regs.pc ≡ true → HasGoneOn took start limit stops sink None board taker
+  gone-to-stop stops later stands = here (nat_lt board.state.now.time limit) refl
+    where
+      here : (b : Bool) → nat_lt board.state.now.time limit ≡ b → HasGoneOn took start limit stops sink None board taker
+      here true e =
+          let early : board.state.now.time < limit = grind (arith, nat_tests) in
+          record {
+            end = board.state.now.time;
+            within = omega arith;
+            some = λ some. later;
+            gone = ends-there early;
+            early = λ less. record { none = refl; time_is = refl; here = stands };
+          }
+      here false e = gone-to-limit (time-is-over under (grind (arith, nat_tests)))
+
+-- without such addresses it ends at its limit alone
+pub gone-free : {S : Type 0} {took : S → Output → S → Type 0} {start : BoardValue} {limit : ℕ} {sink : S} {stop : Option Stop}
+    {new : BoardValue} {later : S} → HasGoneOn took start limit None sink stop new later → HasGone took start limit sink stop new later
+gone-free {S} {took} {start} {limit} {sink} {stop} {new} {later} gone = here (nat_lt gone.end limit) refl
+  where
+    here : (b : Bool) → nat_lt gone.end limit ≡ b → HasGone took start limit sink stop new later
+    here true e = let there = gone.early (grind (arith, nat_tests)) in not-both (sym there.here)
+    here false e =
+        let within = gone.within in
+        let same : gone.end ≡ limit = grind (arith, nat_tests) in
+        subst (λ end. HasGone took start end sink stop new later) same gone.gone
+
+pub goes-free : {S E : Type 0} (to : Giving S) (start : BoardValue) (limit : ℕ) (stops : Option (List ℕ)) (sink : S)
+    (answer : Result (Option Stop) E) (new : BoardValue) (later : S) → stops ≡ None
+    → GoesOn to start limit stops sink answer new later → GoesTo to start limit sink answer new later
+goes-free to start limit stops sink (Ok stop) new later none gone =
+    gone-free (subst (λ (stops : Option (List ℕ)). HasGoneOn to.took start limit stops sink stop new later) none gone)
+goes-free to start limit stops sink (Err refusal) new later none gone = gone
+
+-- ---- what is passed by
+
+-- a stretch after others
+pub passes-further : (old mid new : BoardValue) (limit : ℕ) (stops : Option (List ℕ)) (told between : Option (List PastStep))
+    → mid.set ≡ old.set → IsTold old limit mid told between
+    → PassesBy (step (by_view old.set)) stops old.state.now (mid.state.now.steps + 1) → BoardPasses stops mid new
+    → BoardPasses stops old new
+passes-further old mid new limit stops told between set one passed more =
+    passes-more (step (by_view old.set)) stops old.state.now new.state.now.steps one passed
+    (subst (λ (set : Parts). PassesBy (step (by_view set)) stops mid.state.now new.state.now.steps) set more)

@@ -1,0 +1,9 @@
+-- With no address to stop at, the loop goes to its limit.
+use Rattle.pac_board.specs.SinksLaws.{by}
+use Rattle.pac_board.proofs.Roads.{goes-free}
+use Rattle.pac_board.proofs.board.Board.run_untold.Goals as goal
+
+pub returns : goal.returns
+returns g c =
+    goes-free (by g.S.Sink.took g.S.Sink.refused) c.args.self.now c.args.limit c.none.result c.args.sink.now c.run-ran.result
+    c.run-ran.new.self c.run-ran.new.sink c.none.ensures c.run-ran.ensures.made

@@ -1,0 +1,34 @@
+-- Law: the walk of a board up to a limit, or to an earlier end, before a step that begins where it is to stop; nothing is due before.
+use Rattle.std.specs.Prelude.{◌≡◌, ◌<◌, ◌≤◌, ℕ, List, Option, None, Result, Ok, Err, true}
+use Rattle.pac_cpu.specs.declared.once.Stop.{Stop}
+use Rattle.pac_board_model.specs.Output.{Output}
+use Rattle.pac_board_model.specs.Step.{step}
+use Rattle.pac_board_model.specs.Trace.{by_view}
+use Rattle.pac_machine.specs.Stops.{is_stop, PassesBy}
+use Rattle.pac_board.specs.SinksLaws.{Giving}
+use Rattle.pac_board.specs.State.{BoardValue}
+use Rattle.pac_board.specs.Turns.{HasGone, IsWayRefused}
+
+-- no step of a board but the first began where it was to stop
+abbrev pub BoardPasses : (stops : Option (List ℕ)) → (old new : BoardValue) → Type 0
+BoardPasses stops old new = PassesBy (step (by_view old.set)) stops old.state.now new.state.now.steps
+
+-- the board stands where its next step would begin at such an address, and has met no stop
+pub record IsAtStop (stops : Option (List ℕ)) (time : ℕ) (stop : Option Stop) (new : BoardValue) : Type 0 where
+  pub none : stop ≡ None
+  pub time_is : new.state.now.time ≡ time
+  pub here : is_stop stops new.state.now.regs.pc ≡ true
+
+-- The walk came to its end: the limit, or an earlier time, at which it is to stop. A walk with any time before it does one step at least.
+pub record HasGoneOn {S : Type 0} (took : S → Output → S → Type 0) (old : BoardValue) (limit : ℕ) (stops : Option (List ℕ)) (sink : S)
+    (stop : Option Stop) (new : BoardValue) (later : S)
+    : Type 0 where
+  pub end : ℕ
+  pub within : end ≤ limit
+  pub some : old.state.now.time < limit → old.state.now.time < end
+  pub gone : HasGone took old end sink stop new later
+  pub early : end < limit → IsAtStop stops end stop new
+
+abbrev pub GoesOn : {S E : Type 0} → Giving S → BoardValue → ℕ → Option (List ℕ) → S → Result (Option Stop) E → BoardValue → S → Type 0
+GoesOn to old limit stops sink (Ok stop) new later = HasGoneOn to.took old limit stops sink stop new later
+GoesOn to old limit stops sink (Err refusal) new later = IsWayRefused to old limit sink new later

@@ -1,0 +1,64 @@
+//! Addresses before which steps are to stop.
+
+ghost use Rattle.std.specs.Prelude.{◌≡◌, None, Some};
+ghost use Rattle.pac_machine.specs.Stops as stops;
+
+use std::marker::Model;
+
+/// A byte for each address: 0 where the steps go on.
+pub type Marks = [u8; 65_536];
+
+/// The addresses before which steps are to stop. Clauses see the map, if there is one.
+#[derive(Drop)]
+pub struct Stops<'a> {
+    marks: Option<&'a Marks>,
+}
+
+impl<'a> Model for Stops<'a> {
+    ghost use Rattle.std.specs.Prelude.{List, Option, ℕ};
+    ghost use Rattle.std.specs.Option.{option_copied};
+
+    ghost Value = { Option (List ℕ) };
+
+    ghost view = { λ stops. option_copied stops.marks };
+}
+
+impl<'a> Stops<'a> {
+    /// No address: the steps go on at each.
+    #[inline(always)]
+    pub fn none() -> Stops<'a>
+        ensures { result ≡ None }
+    {
+        Stops { marks: None }
+    }
+
+    /// Those that a map marks.
+    #[inline(always)]
+    pub fn at(marks: &'a Marks) -> Stops<'a>
+        ensures { result ≡ Some marks.now }
+    {
+        Stops { marks: Some(marks) }
+    }
+
+    /// The time from which on steps look where they begin: at once where there is a map, and else never before the time at which they end.
+    #[inline(always)]
+    pub(crate) fn first_look(&self, end: u64) -> u64
+        ensures { result ≡ stops.first_look self.now end }
+    {
+        match self.marks {
+            Some(_) => 0,
+            None => end,
+        }
+    }
+
+    /// Whether steps are to stop before this address.
+    #[inline(always)]
+    pub fn has(&self, address: u16) -> bool
+        ensures { result ≡ stops.is_stop self.now address }
+    {
+        match self.marks {
+            Some(marks) => marks[usize::from(address)] != 0,
+            None => false,
+        }
+    }
+}
