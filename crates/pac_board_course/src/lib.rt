@@ -1,4 +1,4 @@
-//! A script that is played on a board: what is left of its run, step by step, or to its end at once.
+//! A script that is played on a board: what is left of its run, to a time or an address, or to its end at once.
 #![tactic(auto)]
 
 mod course;

@@ -1,4 +1,4 @@
-//! The way forward of a script's run: steps in one go, each of which is told.
+//! The way forward of a run: steps in one go, each of which is told.
 
 ghost use Rattle.std.specs.Prelude.{◌≡◌, ◌<◌, ◌≤◌, ◌+◌, ◌*◌, min};
 ghost use Rattle.pac_board.specs.SinksLaws.{by};
