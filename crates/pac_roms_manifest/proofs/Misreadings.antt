@@ -1,12 +1,10 @@
 -- What is read, or isn't, in a form of several parts.
-use Rattle.std.proofs.Common.{◌≡◌, refl, Option, Result, Err}
+use Rattle.std.proofs.Common.{◌≡◌, Option, Result, Err, rules}
 use Rattle.std.specs.Prelude.{option_and_then}
 use Rattle.pac_roms_manifest.specs.Results.{ReadsValue, ReadsAs}
 use Rattle.pac_roms_manifest.specs.declared.reading.Misread.{Misread}
-use Rattle.pac_roms_manifest.specs.declared.reading.Misread.TheVariants as misread
 
 -- a part that isn't read leaves the whole unread
 pub unread : {A B : Type 0} (result : Result B Misread) (told why : Misread) (form : Option A) (more : A → Option B) → result ≡ Err told
     → told ≡ why → ReadsAs (λ (it : A). it) (Err why) form → ReadsValue result (option_and_then more form)
-unread result told misread.Memory form more is same part = rw (is, same) tt
-unread result told misread.Form form more is same part = rw (is, same, part) refl
+unread result told why form more is same part = search rules

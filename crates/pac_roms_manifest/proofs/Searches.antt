@@ -1,9 +1,8 @@
 -- Searches over all parts: what they say of each, and how far a loop over them has come.
-use Rattle.std.proofs.Common.{◌≡◌, ℕ, ◌+◌, ◌<◌, Bool, false, List, [], ◌∷◌, ◌++◌, length, get_or, drop, zero, suc}
-use Rattle.std.proofs.Common.{Option, Some, None, Bor, map, refl, ap, sym, ◌∙◌, arith}
+use Rattle.std.proofs.Common.{◌≡◌, ℕ, ◌+◌, ◌<◌, Bool, false, List, [], ◌∷◌, ◌++◌, length, get_or, drop, zero, suc, rules}
+use Rattle.std.proofs.Common.{Option, Some, None, Bor, map, refl, ◌∙◌, arith}
 use Rattle.std.specs.Prelude.{option_copied}
 use Rattle.std.specs.List.{cons_option}
-use Rattle.std.specs.Option.{option_or}
 use Rattle.std.proofs.lemmas.List.{at_drop_more, map-append, append-nil}
 use Rattle.pac_lemmas.proofs.Options.{both-none}
 use Rattle.pac_roms_manifest.specs.Manifests.{entry_of_part}
@@ -11,8 +10,6 @@ use Rattle.pac_roms_manifest.specs.Parts.{parts_in_order}
 use Rattle.pac_roms_manifest.specs.Sets.{first_answer, is_unnamed, unnamed_fault}
 use Rattle.pac_roms_manifest.specs.declared.manifest.Manifest.{Manifest}
 use Rattle.pac_roms_manifest.specs.declared.part.PartName.{PartName}
-use Rattle.pac_roms_manifest.specs.declared.part.PartName.TheVariants.{Program1, Program2, Program3, Program4, Tiles, Sprites}
-use Rattle.pac_roms_manifest.specs.declared.part.PartName.TheVariants.{Colours, Lookup, Wave, Timing}
 
 -- a question without an answer has none at any element
 nowhere : {A B : Type 0} (question : A → Option B) (xs : List A) (n : ℕ) (d : A) → n < length xs → first_answer question xs ≡ None
@@ -25,23 +22,12 @@ nowhere question (x ∷ xs) (suc n) d within none =
 -- so it has none at any part
 pub nothing_at : {A : Type 0} (question : PartName → Option A) (part : PartName)
     → first_answer question parts_in_order ≡ None → question part ≡ None
-nothing_at question Program1 none = nowhere question parts_in_order 0 Program1 (omega arith) none
-nothing_at question Program2 none = nowhere question parts_in_order 1 Program1 (omega arith) none
-nothing_at question Program3 none = nowhere question parts_in_order 2 Program1 (omega arith) none
-nothing_at question Program4 none = nowhere question parts_in_order 3 Program1 (omega arith) none
-nothing_at question Tiles none = nowhere question parts_in_order 4 Program1 (omega arith) none
-nothing_at question Sprites none = nowhere question parts_in_order 5 Program1 (omega arith) none
-nothing_at question Colours none = nowhere question parts_in_order 6 Program1 (omega arith) none
-nothing_at question Lookup none = nowhere question parts_in_order 7 Program1 (omega arith) none
-nothing_at question Wave none = nowhere question parts_in_order 8 Program1 (omega arith) none
-nothing_at question Timing none = nowhere question parts_in_order 9 Program1 (omega arith) none
+nothing_at question part none = search rules
 
 -- a question that had no answer so far has none at the next element
 pub passed : {A B : Type 0} (question : A → Option B) (xs : List A) (i : ℕ) (d : A) → i < length xs → question (get_or xs i d) ≡ None
     → first_answer question (drop i xs) ≡ first_answer question xs → first_answer question (drop (i + 1) xs) ≡ first_answer question xs
-passed question xs i d within none so_far =
-    sym (ap (λ answer. option_or answer (first_answer question (drop (i + 1) xs))) none)
-    ∙ sym (at_drop_more (first_answer question) xs i d within) ∙ so_far
+passed question xs i d within none so_far = cc (none, at_drop_more (first_answer question) xs i d within, so_far)
 
 -- a part whose file is named has no fault of that kind
 pub named_part : (manifest : Manifest) (assembled : Bool) (part : PartName) (test : Bool)

@@ -1,10 +1,8 @@
 -- Where a part has to be there and none of its faults is found, its file has the part's size.
-use Rattle.std.proofs.Common.{◌≡◌, ℕ, ◌==◌, Bool, true, false, List, [], ◌++◌, length, sym, ap, ◌∙◌, refl, inl, inr, arith}
-use Rattle.std.proofs.Common.{Option, Some, None, option_map, is_some, is_none, IfSome, Bor}
+use Rattle.std.proofs.Common.{◌≡◌, ℕ, Bool, true, false, List, [], length, arith, rules, Option, None, option_map, is_some, IfSome, Bor}
 use Rattle.std.specs.Prelude.{unwrap_or, option_copied}
 use Rattle.pac_lemmas.proofs.Options.{none-parts}
 use Rattle.pac_roms.specs.Parts.{program_size}
-use Rattle.std.proofs.lemmas.Bool.{cases_Bool, eqb-true}
 use Rattle.std.proofs.lemmas.List.{length-append}
 use Rattle.pac_roms_manifest.specs.Entries.{PlainEntry}
 use Rattle.pac_roms_manifest.specs.Manifests.{◌>>=◌, entry_of_part}
@@ -15,25 +13,7 @@ use Rattle.pac_roms_manifest.specs.declared.fault.ManifestCode.TheVariants.{Unna
 use Rattle.pac_roms_manifest.specs.declared.manifest.Manifest.{Manifest}
 use Rattle.pac_roms_manifest.specs.declared.part.Part.{Part}
 use Rattle.pac_roms_manifest.specs.declared.part.PartName.{PartName}
-use Rattle.pac_roms_manifest.specs.declared.part.PartName.TheVariants.{Program1, Program2, Program3, Program4}
 use Rattle.pac_roms_manifest.proofs.Searches.{nothing_at}
-
--- nothing is wrong with a file that is there
-sized_bytes : (part : PartName) (digest bytes : Option (List ℕ)) → option_map (fault_at part) (code_of_part part digest bytes) ≡ None
-    → length (unwrap_or bytes []) ≡ rom_part_size part
-sized_bytes part digest None right = cc right
-sized_bytes part digest (Some bytes) right =
-    elim (cases_Bool (length bytes == rom_part_size part)) [
-      | inl same ↦ eqb-true (length bytes) (rom_part_size part) same
-      | inr other ↦ cc (rw other at right)
-    ]
-
--- a file that the manifest names has its part's size, if nothing is wrong with it
-sized_file : (part : PartName) (files : List Part) (file digest : Option (List ℕ)) → is_none file ≡ false
-    → (file >>= λ name. option_map (fault_at part) (code_of_part part digest (bytes_named files name))) ≡ None
-    → length (unwrap_or (file >>= bytes_named files) []) ≡ rom_part_size part
-sized_file part files None digest named right = cc named
-sized_file part files (Some name) digest named right = sized_bytes part digest (bytes_named files name) right
 
 -- and so has the file of a part's entry
 sized_entry : (assembled : Bool) (part : PartName) (files : List Part) (entry : Option PlainEntry) → needs_table assembled part ≡ true
@@ -41,8 +21,7 @@ sized_entry : (assembled : Bool) (part : PartName) (files : List Part) (entry : 
     → ((entry >>= λ said. said.file)
     >>= λ name. option_map (fault_at part) (code_of_part part (entry >>= λ said. said.digest) (bytes_named files name))) ≡ None
     → length (unwrap_or ((entry >>= λ said. said.file) >>= bytes_named files) []) ≡ rom_part_size part
-sized_entry assembled part files None needed named right = cc (sym needed ∙ named)
-sized_entry assembled part files (Some said) needed named right = sized_file part files said.file said.digest named right
+sized_entry assembled part files entry needed named right = search rules
 
 -- a part that has to be there, where no fault is found
 pub sized : (manifest : Manifest) (files : List Part) (assembled : Bool) (part : PartName) → needs_table assembled part ≡ true
@@ -60,31 +39,15 @@ pub sized_loan : (manifest : Manifest) (files : List Part) (assembled : Bool) (p
     → loan ≡ rom_part_bytes manifest files part → needs_table assembled part ≡ true
     → first_answer (unnamed_fault manifest assembled) parts_in_order ≡ None → first_answer (file_fault manifest files) parts_in_order ≡ None
     → length loan ≡ rom_part_size part
-sized_loan manifest files assembled part loan same needed named right =
-    ap length same ∙ sized manifest files assembled part needed named right
+sized_loan manifest files assembled part loan same needed named right = grind (arith, sized)
 
 -- the program has its size: that of the source, and the four ROMs together
 pub sized_program : (manifest : Manifest) (files : List Part) (assembled : Option (Bor (List ℕ))) (test : Bool) → test ≡ is_some assembled
     → IfSome assembled (λ rom. length rom.now ≡ program_size)
     → first_answer (unnamed_fault manifest test) parts_in_order ≡ None → first_answer (file_fault manifest files) parts_in_order ≡ None
     → length (program_bytes manifest files (option_copied assembled)) ≡ program_size
-sized_program manifest files (Some rom) test same size named right = size
-sized_program manifest files None test same size named right =
-    let needed : needs_table test Program1 ≡ true = rw same refl in
-    let rom1 = sized manifest files test Program1 needed named right in
-    let rom2 = sized manifest files test Program2 needed named right in
-    let rom3 = sized manifest files test Program3 needed named right in
-    let rom4 = sized manifest files test Program4 needed named right in
-    let one = rom_part_bytes manifest files Program1 in
-    let two = rom_part_bytes manifest files Program2 in
-    let three = rom_part_bytes manifest files Program3 in
-    let four = rom_part_bytes manifest files Program4 in
-    let sum = length-append (one ++ two ++ three) four in
-    let half = length-append (one ++ two) three in
-    let start = length-append one two in
-    omega (arith, sum, half, start, rom1, rom2, rom3, rom4)
+sized_program manifest files assembled test same size named right = grind (arith, length-append, sized)
 
 -- what is lent is there where the loan is
 pub same_test : (lent : Option (Bor (List ℕ))) → is_some (option_copied lent) ≡ is_some lent
-same_test None = refl
-same_test (Some bytes) = refl
+same_test lent = search rules

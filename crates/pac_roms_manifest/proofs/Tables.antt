@@ -1,4 +1,5 @@
 -- The tables of the program's ROMs, by how many there are.
+use Rattle.std.proofs.lemmas.Grind.{common_steps}
 use Rattle.std.proofs.Common.{◌≡◌, ◌≤◌, ◌<◌, ◌⊎◌, List, [], ◌∷◌, length, get_or, Option, Some, None, refl, inl, inr, arith}
 use Rattle.toml.specs.Data.{Data, array}
 use Rattle.toml.specs.View.{view, items_view}
@@ -18,18 +19,9 @@ four_forms first second third fourth = do
 pub four_tables : (vs : List Value) (a b c d : Value) → 4 ≤ length vs → length vs < 5
     → a ≡ get_or vs 0 a → b ≡ get_or vs 1 b → c ≡ get_or vs 2 c → d ≡ get_or vs 3 d
     → program_form (array (items_view vs)) ≡ four_forms (view a) (view b) (view c) (view d)
-four_tables [] a b c d low high ha hb hc hd = absurd (omega arith)
-four_tables (v ∷ []) a b c d low high ha hb hc hd = absurd (omega arith)
-four_tables (v ∷ w ∷ []) a b c d low high ha hb hc hd = absurd (omega arith)
-four_tables (v ∷ w ∷ x ∷ []) a b c d low high ha hb hc hd = absurd (omega arith)
-four_tables (v ∷ w ∷ x ∷ y ∷ []) a b c d low high ha hb hc hd = rw (ha, hb, hc, hd) refl
-four_tables (v ∷ w ∷ x ∷ y ∷ z ∷ vs) a b c d low high ha hb hc hd = absurd (omega arith)
+four_tables vs a b c d low high ha hb hc hd = grind (arith, common_steps)
 
 pub other_count : (vs : List Value) → (length vs < 4) ⊎ (5 ≤ length vs) → program_form (array (items_view vs)) ≡ None
-other_count [] other = refl
-other_count (v ∷ []) other = refl
-other_count (v ∷ w ∷ []) other = refl
-other_count (v ∷ w ∷ x ∷ []) other = refl
 other_count (v ∷ w ∷ x ∷ y ∷ []) (inl low) = absurd (omega arith)
 other_count (v ∷ w ∷ x ∷ y ∷ []) (inr high) = absurd (omega arith)
-other_count (v ∷ w ∷ x ∷ y ∷ z ∷ vs) other = refl
+other_count vs other = refl

@@ -1,7 +1,6 @@
 -- A document's table, by what its reader says of it.
-use Rattle.std.proofs.Common.{◌≡◌, ℕ, List, Some, None, refl, inl, inr}
+use Rattle.std.proofs.Common.{◌≡◌, ℕ, List, Some, None, arith}
 use Rattle.std.specs.Prelude.{IsUtf8}
-use Rattle.std.specs.Str.{is_utf8}
 use Rattle.std.proofs.lemmas.Bool.{cases_Bool}
 use Rattle.std.proofs.lemmas.Str.{IsUtf8-from_is_utf8, is_utf8-from_IsUtf8}
 use Rattle.toml.specs.Data.{Members}
@@ -12,8 +11,4 @@ pub tree_found : (text : List ℕ) (tree : Members) → IsUtf8 text → parse_do
 tree_found text tree utf8 found = rw (is_utf8-from_IsUtf8 text utf8) found
 
 pub no_tree : (text : List ℕ) → (IsUtf8 text → parse_document text ≡ None) → document_table text ≡ None
-no_tree text none =
-    elim (cases_Bool (is_utf8 text)) [
-      | inl is ↦ rw is (none (IsUtf8-from_is_utf8 text is))
-      | inr other ↦ rw other refl
-    ]
+no_tree text none = grind (arith, IsUtf8-from_is_utf8, cases_Bool)

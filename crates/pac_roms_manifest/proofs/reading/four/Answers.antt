@@ -1,4 +1,4 @@
-use Rattle.std.proofs.Common.{◌≡◌, refl}
+use Rattle.std.proofs.Common.{◌≡◌, refl, arith}
 use Rattle.std.proofs.lemmas.Result.{err_from_is_err_and}
 use Rattle.toml.specs.Data.{array}
 use Rattle.toml.specs.View.{view, items_view}
@@ -36,9 +36,7 @@ returns-in_err-entry-4 c =
     let all : program_form (array (items_view c.args.tables.now))
     ≡ four_forms (view c.first-item.result) (view c.second-item.result) (view c.third-item.result) (view c.fourth-item.result) =
     four_tables _ _ _ _ _ c.in-len4.len_at_least c.in-len4.len_below c.first-item.is c.second-item.is c.third-item.is c.fourth-item.is in
-    let told = err_from_is_err_and c.from_residual-in_err-entry-4.result c.from_residual-in_err-entry-4.ensures.1 in
-    rw (all, c.in_ok-entry.ensures, c.in_ok-entry-2.ensures, c.in_ok-entry-3.ensures)
-    (unread _ told.0 _ _ _ told.1 told.2 c.in_err-entry-4.ensures)
+    let told = err_from_is_err_and c.from_residual-in_err-entry-4.result c.from_residual-in_err-entry-4.ensures.1 in grind (arith, unread)
 
 pub returns : goal.returns
 returns c =

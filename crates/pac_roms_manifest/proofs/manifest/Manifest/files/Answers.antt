@@ -1,3 +1,4 @@
+use Rattle.std.proofs.Common.{arith}
 use Rattle.std.specs.Prelude.{option_copied}
 use Rattle.pac_lemmas.proofs.Pieces.{filter_map-one-more}
 use Rattle.pac_roms_manifest.specs.Manifests.{file_of_part}
@@ -11,10 +12,4 @@ pub loop-part-preserved : goal.loop-part-preserved
 loop-part-preserved c =
     let more =
     filter_map-one-more (file_of_part c.args.self.now) parts_in_order c.loop-part.part-index Program1 (option_copied c.file.result)
-    c.loop-part-test.true c.file.ensures in
-    elim c.match-file.branch [
-      | in-Some+in_ok-push w ↦
-          rw (w.names-is, w.in_ok-push.ensures.items)
-          (pushed c.loop-part.names.items _ _ c.file.result w.in-Some.name w.in-Some.is c.loop-part.invariant more)
-      | in_default w ↦ rw w.names-is (skipped c.loop-part.names.items _ _ c.file.result w.in_default.is c.loop-part.invariant more)
-    ]
+    c.loop-part-test.true c.file.ensures in grind (arith, in-Some+in_ok-push, in_default, pushed, skipped)
