@@ -7,7 +7,7 @@ use Rattle.std.proofs.lemmas.List.{get_or-map, length-map, ext_get_or, take_all}
 use Rattle.std.proofs.lemmas.Simd.{Each1-from_get_or, SwzOk, SwzOk-from_below, swz_l, length-swz_l, get_or-swz_l_below, pick_l_whole}
 use lib.Lanes.{pick_l}
 use Rattle.pac_media.specs.Images.{palette_colour}
-use Rattle.pac_media.specs.Drawn.{AreChannels, woven}
+use Rattle.pac_media.specs.Drawn.{ArePlanes, rgb_pixels}
 
 -- ---- what is picked
 
@@ -16,16 +16,16 @@ picks numbers long below =
     SwzOk-from_below w8 16 1 16 0 numbers refl (omega (arith, long))
     (Each1-from_get_or (λ number. number < 16) numbers 0 (λ k inside. below k (omega (arith, long, inside))))
 
-pub picked-is : (channel numbers : List ℕ) → length numbers ≡ 16 → ((k : ℕ) → k < 16 → slice_index numbers k < 16)
-    → swz_l w8 16 channel 0 numbers ≡ map (λ number. slice_index channel number) numbers
-picked-is channel numbers long below =
-    ext_get_or 0 _ _ (length-swz_l w8 16 channel 0 numbers ∙ sym (length-map numbers (λ number. slice_index channel number))) (λ k inside.
-    let within : k < length numbers = omega (arith, length-swz_l w8 16 channel 0 numbers, inside) in
+pub picked-is : (plane numbers : List ℕ) → length numbers ≡ 16 → ((k : ℕ) → k < 16 → slice_index numbers k < 16)
+    → swz_l w8 16 plane 0 numbers ≡ map (λ number. slice_index plane number) numbers
+picked-is plane numbers long below =
+    ext_get_or 0 _ _ (length-swz_l w8 16 plane 0 numbers ∙ sym (length-map numbers (λ number. slice_index plane number))) (λ k inside.
+    let within : k < length numbers = omega (arith, length-swz_l w8 16 plane 0 numbers, inside) in
     let small : k < 16 = omega (arith, within, long) in
     let row : 16 * ((0 + k) / 16) ≡ 0 = omega (arith, small) in
-    get_or-swz_l_below w8 16 channel 0 numbers k within (below k small)
-    ∙ (ap (λ place. get_or channel place 0) (omega (arith, row))
-    ∙ sym (get_or-map (λ number. slice_index channel number) numbers k 0 0 within)))
+    get_or-swz_l_below w8 16 plane 0 numbers k within (below k small)
+    ∙ (ap (λ place. get_or plane place 0) (omega (arith, row))
+    ∙ sym (get_or-map (λ number. slice_index plane number) numbers k 0 0 within)))
 
 -- ---- what is woven: red and green lane by lane, in halves, and blue between them
 
@@ -50,20 +50,20 @@ abbrev lanes : List ℕ → List ℕ
 lanes xs = pick_l 0 xs (range_with_len 0 16)
 
 lanes-woven : (reds greens blues : List ℕ)
-    → by_parts (lanes reds) (lanes greens) (lanes blues) ≡ woven (lanes reds) (lanes greens) (lanes blues)
+    → by_parts (lanes reds) (lanes greens) (lanes blues) ≡ rgb_pixels (lanes reds) (lanes greens) (lanes blues)
 lanes-woven reds greens blues = refl
 
 pub woven-by-parts : (reds greens blues : List ℕ) → length reds ≡ 16 → length greens ≡ 16 → length blues ≡ 16
-    → by_parts reds greens blues ≡ woven reds greens blues
+    → by_parts reds greens blues ≡ rgb_pixels reds greens blues
 woven-by-parts reds greens blues red_long green_long blue_long =
     rw (sym (pick_l_whole 0 reds 16 red_long), sym (pick_l_whole 0 greens 16 green_long), sym (pick_l_whole 0 blues 16 blue_long))
     (lanes-woven reds greens blues)
 
 -- ---- what is picked and woven: pixels
 
-pub woven-pixels : (colours : List (List ℕ)) (reds greens blues numbers : List ℕ) → AreChannels colours reds greens blues
+pub woven-pixels : (colours : List (List ℕ)) (reds greens blues numbers : List ℕ) → ArePlanes colours reds greens blues
     → ((k : ℕ) → k < length numbers → get_or numbers k 0 < 16)
-    → woven (map (λ number. slice_index reds number) numbers) (map (λ number. slice_index greens number) numbers)
+    → rgb_pixels (map (λ number. slice_index reds number) numbers) (map (λ number. slice_index greens number) numbers)
     (map (λ number. slice_index blues number) numbers)
     ≡ flat_map (palette_colour colours) numbers
 woven-pixels colours reds greens blues [] made below = refl
@@ -83,7 +83,7 @@ three-parts old one two three a b c first second third long =
     ∙ (ap (λ part. part ++ c) (second ∙ ap (λ part. part ++ b) first)
     ∙ append_assoc a b c))
 
--- one colour more in its channels
+-- one colour more in its planes
 pub colour-step : (colours : List (List ℕ)) (reds greens blues : List ℕ) (number red green blue : ℕ)
     → length reds ≡ 16 → length greens ≡ 16 → length blues ≡ 16 → number < 16 → get_or colours number [] ≡ red ∷ green ∷ blue ∷ []
     → ((k : ℕ) → k < number → get_or colours k [] ≡ get_or reds k 0 ∷ get_or greens k 0 ∷ get_or blues k 0 ∷ [])

@@ -9,20 +9,20 @@ abbrev pub AreColours : List (List ℕ) → Type 0
 AreColours palette = (number : ℕ) → number < 16 → length (palette_colour palette number) ≡ 3
 
 -- the reds, the greens and the blues of sixteen colours
-abbrev pub AreChannels : (colours : List (List ℕ)) (reds greens blues : List ℕ) → Type 0
-AreChannels colours reds greens blues =
+abbrev pub ArePlanes : (colours : List (List ℕ)) (reds greens blues : List ℕ) → Type 0
+ArePlanes colours reds greens blues =
     (number : ℕ) → number < 16 →
     palette_colour colours number ≡ slice_index reds number ∷ slice_index greens number ∷ slice_index blues number ∷ []
 
 -- pixels of these reds, greens and blues
-abbrev pub woven : (reds greens blues : List ℕ) → List ℕ
-woven (red ∷ reds) (green ∷ greens) (blue ∷ blues) = red ∷ green ∷ blue ∷ woven reds greens blues
-woven reds greens blues = []
+abbrev pub rgb_pixels : (reds greens blues : List ℕ) → List ℕ
+rgb_pixels (red ∷ reds) (green ∷ greens) (blue ∷ blues) = red ∷ green ∷ blue ∷ rgb_pixels reds greens blues
+rgb_pixels reds greens blues = []
 
 -- a palette with its reds, greens and blues
 pub record IsPalette (colours : List (List ℕ)) (reds greens blues : List ℕ) : Type 0 where
   pub sixteen : length colours ≡ 16
-  pub made : AreChannels colours reds greens blues
+  pub made : ArePlanes colours reds greens blues
 
 -- a line's pixels, three bytes each, are those of the kept numbers in these colours, and so many of the kept numbers are the new ones
 pub record IsDrawnTo (palette : List (List ℕ)) (count : ℕ) (numbers pixels kept : List ℕ) : Type 0 where

@@ -1,5 +1,5 @@
 -- Believed: the text of a wave file: RIFF WAVE with PCM samples (IBM and Microsoft, "Multimedia Programming Interface and
--- Data Specifications 1.0"), here on one channel, 96,000 of 16 bits a second. All numbers stand low byte first.
+-- Data Specifications 1.0"), here on one plane, 96,000 of 16 bits a second. All numbers stand low byte first.
 use Rattle.std.specs.Prelude.{ℕ, ℤ, ◌+◌, ◌*◌, List, [], ◌∷◌, codes}
 use Rattle.std.specs.List.{flat_map}
 use Rattle.std.specs.Int.{w16, w32, to_le_bytes, cast_unsigned}
@@ -24,7 +24,7 @@ unfoldable pub wav_header : ℕ → List ℕ
 wav_header samples =
     joined_pieces
     (codes "RIFF" ∷ to_le_bytes w32 (riff_size samples) ∷ codes "WAVE"
-    -- 16 bytes of the format: PCM, which is 1, and one channel; samples and bytes a second; bytes and bits of a sample
+    -- 16 bytes of the format: PCM, which is 1, and one plane; samples and bytes a second; bytes and bits of a sample
     ∷ codes "fmt " ∷ to_le_bytes w32 16
     ∷ to_le_bytes w16 1 ∷ to_le_bytes w16 1
     ∷ to_le_bytes w32 rate ∷ to_le_bytes w32 (sample_size * rate)

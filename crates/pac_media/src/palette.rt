@@ -5,7 +5,7 @@ ghost use Rattle.std.specs.Int.{w64, to_le_bytes};
 ghost use Rattle.std.specs.List.{flat_map};
 ghost use Rattle.pac_colour.specs.Colours.{numbers as colour_numbers};
 ghost use Rattle.pac_media.specs.Images.{palette_colour};
-ghost use Rattle.pac_media.specs.Drawn.{AreChannels, woven};
+ghost use Rattle.pac_media.specs.Drawn.{ArePlanes, rgb_pixels};
 
 use std::alloc::{AllocError, Global};
 use std::marker::Model;
@@ -31,16 +31,16 @@ pub(crate) const PIXELS: usize = 3 * LANES;
 
 /// The reds, the greens and the blues of sixteen colours.
 #[derive(Clone, Copy)]
-struct Channels {
+struct Planes {
     reds: [u8; LANES],
     greens: [u8; LANES],
     blues: [u8; LANES],
 }
 
-/// The channels of sixteen colours.
-fn channels_of(colours: &[[u8; 3]]) -> Channels
+/// The planes of sixteen colours.
+fn planes_of(colours: &[[u8; 3]]) -> Planes
     requires { length colours.now ≡ colour_numbers }
-    ensures { AreChannels colours.now result.reds result.greens result.blues }
+    ensures { ArePlanes colours.now result.reds result.greens result.blues }
 {
     let mut reds = [0; LANES];
     let mut greens = [0; LANES];
@@ -51,7 +51,7 @@ fn channels_of(colours: &[[u8; 3]]) -> Channels
         greens[number] = green;
         blues[number] = blue;
     }
-    Channels {
+    Planes {
         reds,
         greens,
         blues,
@@ -78,19 +78,19 @@ fn sixteen(numbers: &[u8]) -> u8x16
     u8x16::from_slice(numbers)
 }
 
-/// What each of sixteen colour numbers picks of a channel.
+/// What each of sixteen colour numbers picks of a plane.
 #[inline(always)]
-fn picked(channel: &[u8; LANES], numbers: u8x16) -> u8x16
+fn picked(plane: &[u8; LANES], numbers: u8x16) -> u8x16
     requires { (k : ℕ) → k < 16 → slice_index numbers k < colour_numbers }
-    ensures { result ≡ map (λ number. slice_index channel.now number) numbers }
+    ensures { result ≡ map (λ number. slice_index plane.now number) numbers }
 {
-    u8x16::from_array(*channel).swizzle_dyn(numbers)
+    u8x16::from_array(*plane).swizzle_dyn(numbers)
 }
 
 /// Sixteen pixels of these reds, greens and blues, three bytes each: 48 bytes in three vectors.
 #[inline(always)]
 fn weave(red: u8x16, green: u8x16, blue: u8x16) -> (u8x16, u8x16, u8x16)
-    ensures { result.0 ++ (result.1 ++ result.2) ≡ woven red green blue }
+    ensures { result.0 ++ (result.1 ++ result.2) ≡ rgb_pixels red green blue }
 {
     let (left, right) = red.interleave(green);
     let middle = left.shuffle(right, MIDDLE);
@@ -114,7 +114,7 @@ fn put_vector(pixels: &mut [u8], at: usize, bytes: u8x16)
 /// A palette, with its reds, greens and blues apart. Clauses see the palette.
 pub(crate) struct Palette {
     colours: Vec<[u8; 3]>,
-    channels: Channels,
+    planes: Planes,
 }
 
 impl Drop for Palette {
@@ -122,7 +122,7 @@ impl Drop for Palette {
     fn drop(self) {
         let Palette {
             colours: _,
-            channels: _,
+            planes: _,
         } = self;
     }
 }
@@ -136,7 +136,7 @@ impl Model for Palette {
     ghost view = { λ palette. palette.colours.items };
 
     ghost invariant = { λ palette.
-        IsPalette palette.colours.items palette.channels.reds palette.channels.greens palette.channels.blues };
+        IsPalette palette.colours.items palette.planes.reds palette.planes.greens palette.planes.blues };
 }
 
 impl Palette {
@@ -145,8 +145,8 @@ impl Palette {
         ensures { IfOk result (λ palette. palette ≡ replicate 16 (replicate 3 0)) }
     {
         let colours = Vec::from_slice(alloc, &[[0; 3]; LANES])?;
-        let channels = channels_of(&colours);
-        Ok(Palette { colours, channels })
+        let planes = planes_of(&colours);
+        Ok(Palette { colours, planes })
     }
 
     /// Whether its colours are these.
@@ -162,7 +162,7 @@ impl Palette {
         ensures { self.new ≡ colours.now }
     {
         self.colours.copy_from_slice(colours);
-        self.channels = channels_of(colours);
+        self.planes = planes_of(colours);
     }
 
     /// Puts the pixels of sixteen colour numbers.
@@ -174,9 +174,9 @@ impl Palette {
         ensures { pixels.new ≡ flat_map (palette_colour self.now) numbers.now }
     {
         let lanes = sixteen(numbers);
-        let red = picked(&self.channels.reds, lanes);
-        let green = picked(&self.channels.greens, lanes);
-        let blue = picked(&self.channels.blues, lanes);
+        let red = picked(&self.planes.reds, lanes);
+        let green = picked(&self.planes.greens, lanes);
+        let blue = picked(&self.planes.blues, lanes);
         let (first, second, third) = weave(red, green, blue);
         put_vector(pixels, 0, first);
         put_vector(pixels, 16, second);

@@ -5,4 +5,4 @@ pub swizzle : goal.swizzle
 swizzle c = picks c.args.numbers c.fits-numbers.0 c.requires
 
 pub returns : goal.returns
-returns c = picked-is c.args.channel.now c.args.numbers c.fits-numbers.0 c.requires
+returns c = picked-is c.args.plane.now c.args.numbers c.fits-numbers.0 c.requires
