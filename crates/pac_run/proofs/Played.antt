@@ -22,7 +22,7 @@ use Rattle.pac_run.specs.declared.fault.Output.TheVariants as which
 use Rattle.pac_run.specs.declared.fault.RunFault.TheVariants as fault
 use Rattle.pac_run.specs.declared.film.Film.{Film}
 use Rattle.pac_run.specs.Films.{film_took, film_giving}
-use Rattle.pac_run.specs.Playing.{IsBrokenOff, IsHeldUp, IsPlayed, Played, PlaysInto}
+use Rattle.pac_run.specs.Playing.{IsBrokenOff, IsPlayHeldUp, IsPlayed, Played, PlaysInto}
 use Rattle.pac_run.specs.Recorded.{BreaksPlay, HasBegun, RecordsPlay, Reel, WritesPlay, WritesSound, heard_by, shown_by}
 use Rattle.pac_run.specs.Run.{Writing, Writings, IsUnwritten, TakesText, writing}
 use Rattle.pac_run.specs.Texts.{images_text, sound_text, wave_file_text, wave_so_far}
@@ -97,7 +97,7 @@ module _ {F W : Type 0} (at : Reel F W) (play : Played) (old : Film F W) (begins
 
   -- up to a refusal of the sink
   pub held-up : Joins at.took_f → (mid : Film F W) (fault : OutputFault)
-      → IsHeldUp (film_giving at.took_f at.refused_f at.took_w at.refused_w) play old mid → Some fault ≡ mid.fault
+      → IsPlayHeldUp (film_giving at.took_f at.refused_f at.took_w at.refused_w) play old mid → Some fault ≡ mid.fault
       → BreaksPlay play (shown_by at mid) (heard_by at mid) fault.output fault.count
   held-up joined mid fault held kept =
       breaks held.cut.taken (held.left ++ held.among.0) mid fault.output fault.count
@@ -117,10 +117,11 @@ module _ {F W : Type 0} (at : Reel F W) (play : Played) (old : Film F W) (begins
             (done.after at.wave (wave_so_far play.frames play.gives) has.sound).written;
         done = subst play.done (sym is) given.done;
       }
-  ended outcome mid new given same (Err fault) is broke =
-      subst (λ (it : OutputFault). BreaksPlay play (shown_by at new) (heard_by at new) it.output it.count) (sym broke.fault_is)
-      (breaks play.gives [] new which.Wave broke.told.count (append-nil play.gives) given.told
-      (stops-at-zeros at play.frames play.gives mid new broke.told (filmed at play.frames play.gives begins given.sink) broke.wave same))
+  ended outcome mid new given same (Err fault) is refused =
+      subst (λ (it : OutputFault). BreaksPlay play (shown_by at new) (heard_by at new) it.output it.count) (sym refused.fault_is)
+      (breaks play.gives [] new which.Wave refused.told.count (append-nil play.gives) given.told
+      (stops-at-zeros at play.frames play.gives mid new refused.told (filmed at play.frames play.gives begins given.sink) refused.wave
+      same))
 
   -- up to a text that was refused, and what waited was written or refused
   pub broke-off : (mid new : Film F W) (count : ℕ) → IsBrokenOff (film_took at.took_f at.took_w) play old count mid
@@ -139,7 +140,7 @@ module _ {F W : Type 0} (at : Reel F W) (play : Played) (old : Film F W) (begins
 -- what was played, by the fault that there was
 module _ {S : Type 0} (to : Giving S) (play : Played) (old new : S) (answer : Result Outcome CommandFault) (fault : CommandFault)
     (is : answer ≡ Err fault) (given : PlaysInto to play old answer new) where
-  pub at-refusal : fault ≡ faults.Refused → IsHeldUp to play old new
+  pub at-refusal : fault ≡ faults.Refused → IsPlayHeldUp to play old new
   at-refusal here = subst (λ answer. PlaysInto to play old answer new) (is ∙ ap (λ it. Err it) here) given
 
   pub at-text : (why : WriteFault) → fault ≡ faults.Text why → IsBrokenOff to.took play old why.count new

@@ -14,7 +14,7 @@ use Rattle.pac_debug.specs.ObeyingLaws.{Scene}
 use Rattle.pac_debug.specs.Watched.{TellsAll}
 use Rattle.pac_debug.specs.WatchedLaws.{WatchesSession, IsSessionWatched, IsWatchRefused, IsWatchUntold, outputs_to_give}
 use Rattle.pac_debug.proofs.HeldUp.{all-told, told-up-to, untold-gives}
-use Rattle.pac_run.specs.Playing.{IsBrokenOff, IsHeldUp, IsPlayed, PlaysInto, session_played, watched_by}
+use Rattle.pac_run.specs.Playing.{IsBrokenOff, IsPlayHeldUp, IsPlayed, PlaysInto, session_played, watched_by}
 use Rattle.pac_run.specs.Run.{Writing, writing}
 use Rattle.pac_run.specs.Watched.{SessionTells}
 use Rattle.pac_run.proofs.Lent.{Carries, text-stops}
@@ -50,7 +50,7 @@ module _ {S T U : Type 0} (to : Giving S) (wrote : T → List ℕ → T → Type
       }
 
   held-up : IsWatchRefused to wrote lines scene last
-      → IsHeldUp to (session_played words scene.session lines unplayed) scene.sink last.sink
+      → IsPlayHeldUp to (session_played words scene.session lines unplayed) scene.sink last.sink
   held-up refused =
       let all = refused.among.1 ∙ all-to-give in
       record {

@@ -62,7 +62,7 @@ pub record IsPlayed {S : Type 0} (took : S → Output → S → Type 0) (play : 
   pub told : play.told play.gives
 
 -- it refused one of them, when it had taken some
-pub record IsHeldUp {S : Type 0} (to : Giving S) (play : Played) (old new : S) : Type 0 where
+pub record IsPlayHeldUp {S : Type 0} (to : Giving S) (play : Played) (old new : S) : Type 0 where
   pub given : List Output
   pub left : List Output
   pub cut : Cut to old given left new
@@ -78,7 +78,7 @@ pub record IsBrokenOff {S : Type 0} (took : S → Output → S → Type 0) (play
 
 abbrev pub PlaysInto : {S : Type 0} → Giving S → Played → S → Result Outcome CommandFault → S → Type 0
 PlaysInto to play old (Ok outcome) new = IsPlayed to.took play old outcome new
-PlaysInto to play old (Err faults.Refused) new = IsHeldUp to play old new
+PlaysInto to play old (Err faults.Refused) new = IsPlayHeldUp to play old new
 PlaysInto to play old (Err (faults.Text fault)) new = IsBrokenOff to.took play old fault.count new
 
 -- ---- a course by itself
@@ -169,7 +169,7 @@ watched_by words lines unplayed found = record {
 abbrev pub watch_playing : {T : Type 0} → (T → List ℕ → T → Type 0) → (T → T → Type 0) → Playing (Watching T)
 watch_playing {T} took refused =
     let left = λ (old new : Watching T).
-        watched_by (writing took refused old.text new.text) (lines old.commands.now) (new ≡ old) old.session in
+    watched_by (writing took refused old.text new.text) (lines old.commands.now) (new ≡ old) old.session in
     record {
       ready = λ it. OfSession (λ session. session ≡ session_at_start session.setting 0) it.session;
       frames = λ it. (left it it).frames;

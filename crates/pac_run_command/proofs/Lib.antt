@@ -1,4 +1,7 @@
 pub mod Reading
 pub mod Performed
 pub mod Unbegun
+pub mod Failing
+pub mod Left
 pub mod WholeOutputs
+pub mod WholeStates
