@@ -12,9 +12,11 @@ use Rattle.pac_board_model.specs.Walk.{Walk, walk, walk_onward, walk_after_step}
 use Rattle.pac_board_model.specs.WalkLaws.{has_ended}
 use Rattle.pac_board_model.proofs.Walks.{not-both, going-before, going-steps, late-has-ended, open-goes-on, step-timely}
 use Rattle.pac_machine.specs.declared.trail.PastStep.{PastStep}
-use Rattle.pac_machine.specs.Stops.{is_stop, PassesBy}
+use Rattle.pac_machine.specs.Stops.{is_stop}
+use Rattle.pac_machine.specs.StopsProofs.{PassesBy}
 use Rattle.pac_machine.proofs.Passing.{passes-more}
-use Rattle.pac_board.specs.Roads.{BoardPasses, HasGoneOn, GoesOn}
+use Rattle.pac_board.specs.Roads.{HasGoneOn, GoesOn}
+use Rattle.pac_board.specs.RoadsProofs.{BoardPasses}
 use Rattle.pac_board.specs.Sinks.{TookAll}
 use Rattle.pac_board.specs.SinksLaws.{Giving}
 use Rattle.pac_board.specs.State.{BoardValue}

@@ -11,6 +11,7 @@ pub mod Turns
 pub mod TurnsProofs
 pub mod Stretches
 pub mod Roads
+pub mod RoadsProofs
 pub mod Laws
 pub mod Kept
 pub mod Hosts
@@ -53,6 +54,7 @@ pub use Rattle.pac_machine.specs.Bursts
 pub use Rattle.pac_machine.specs.Fields
 pub use Rattle.pac_machine.specs.Trails
 pub use Rattle.pac_machine.specs.Stops
+pub use Rattle.pac_machine.specs.StopsProofs
 pub use Rattle.pac_machine.specs.declared.due.Due
 pub use Rattle.pac_machine.specs.declared.fields.Fields as BoardFields
 pub use Rattle.pac_machine.specs.declared.trail.PastStep

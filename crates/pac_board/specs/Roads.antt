@@ -2,16 +2,10 @@
 use Rattle.std.specs.Prelude.{◌≡◌, ◌<◌, ◌≤◌, ℕ, List, Option, None, Result, Ok, Err, true}
 use Rattle.pac_cpu.specs.declared.once.Stop.{Stop}
 use Rattle.pac_board_model.specs.Output.{Output}
-use Rattle.pac_board_model.specs.Step.{step}
-use Rattle.pac_board_model.specs.Trace.{by_view}
-use Rattle.pac_machine.specs.Stops.{is_stop, PassesBy}
+use Rattle.pac_machine.specs.Stops.{is_stop}
 use Rattle.pac_board.specs.SinksLaws.{Giving}
 use Rattle.pac_board.specs.State.{BoardValue}
 use Rattle.pac_board.specs.Turns.{HasGone, IsWayRefused}
-
--- no step of a board but the first began where it was to stop
-abbrev pub BoardPasses : (stops : Option (List ℕ)) → (old new : BoardValue) → Type 0
-BoardPasses stops old new = PassesBy (step (by_view old.set)) stops old.state.now new.state.now.steps
 
 -- the board stands where its next step would begin at such an address, and has met no stop
 pub record IsAtStop (stops : Option (List ℕ)) (time : ℕ) (stop : Option Stop) (new : BoardValue) : Type 0 where

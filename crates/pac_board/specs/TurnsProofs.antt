@@ -1,11 +1,22 @@
 -- For proofs: what proofs say of the definitions of Turns.antt.
+use Rattle.pac_board_model.specs.BoardView.{BoardView}
 use Rattle.pac_board_model.specs.Output.{Output}
-use Rattle.pac_board.specs.State.{BoardValue, nothing_due, due_outputs}
+use Rattle.pac_board_model.specs.Step.{Moment}
+use Rattle.pac_machine.specs.declared.due.Due.{Due}
+use Rattle.pac_board.specs.State.{BoardValue, nothing_due, due_outputs, steps_counted}
 use Rattle.pac_cpu.specs.declared.once.Once.{Once}
 use Rattle.pac_board.specs.CallsLaws.{board_after_step, next_of, once_of_board, outputs_in}
 use Rattle.pac_board.specs.Sinks.{TookAll}
-use Rattle.std.specs.Prelude.{◌≡◌, Result, Ok, Err}
+use Rattle.std.specs.Prelude.{◌≡◌, ◌-◌, Result, Ok, Err}
 use Rattle.pac_board.specs.SinksLaws.{Giving, Cut}
+
+-- the board at a later moment, with something due; its steps up to there are counted
+abbrev pub board_at : BoardValue → Moment BoardView → Due → BoardValue
+board_at board now due = record {
+  set = board.set;
+  state = record { now = now; asked = board.state.asked; due = due };
+  made = steps_counted board.made (now.steps - board.state.now.steps);
+}
 
 pub record IsTurn {S : Type 0} (took : S → Output → S → Type 0) (old : BoardValue) (sink : S) (once : Once) (new : BoardValue) (later : S)
     : Type 0 where

@@ -7,7 +7,8 @@ ghost use Rattle.pac_board.specs.CallsLaws.{with_due, Offers, IsAdvanced, Advanc
 ghost use Rattle.pac_board.specs.SinksLaws.{by};
 ghost use Rattle.pac_board.specs.TurnsProofs.{Turns};
 ghost use Rattle.pac_board.specs.Turns.{GoesTo};
-ghost use Rattle.pac_board.specs.Roads.{GoesOn, BoardPasses};
+ghost use Rattle.pac_board.specs.Roads.{GoesOn};
+ghost use Rattle.pac_board.specs.RoadsProofs.{BoardPasses};
 ghost use Rattle.pac_board.specs.Stretches.{IsStretched, HasBatch, Stretches, IsTold};
 ghost use Rattle.pac_machine.specs.Bursts.{next_sample};
 

@@ -13,7 +13,8 @@ use Rattle.pac_board.specs.Step.{Moment, Next, Goes, Ends, step, frame_ticks}
 use Rattle.pac_board.specs.Trace.{by_view, next_with_inputs, moment_with_inputs}
 use Rattle.pac_board.specs.Trails.{noted_step, stepped, noted, IsNoted}
 use Rattle.pac_board.specs.Roads.{GoesOn}
-use Rattle.pac_board.specs.Stops.{is_stop, PassesBy}
+use Rattle.pac_board.specs.Stops.{is_stop}
+use Rattle.pac_board.specs.StopsProofs.{PassesBy}
 use Rattle.pac_board.specs.Turns.{GoesTo, HasGone, IsWayRefused, board_after_walk}
 use Rattle.pac_board.specs.Walk.{Walk, walk, walk_after_step}
 use Rattle.pac_board.specs.WalkLaws.{has_ended}

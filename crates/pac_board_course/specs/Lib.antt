@@ -35,8 +35,9 @@ pub use Rattle.pac_board.specs.StepKindVariants
 pub use Rattle.pac_board.specs.Stop
 pub use Rattle.pac_board.specs.Trace
 pub use Rattle.pac_board.specs.Trails
-pub use Rattle.pac_board.specs.Turns
+pub use Rattle.pac_board.specs.TurnsProofs
 pub use Rattle.pac_board.specs.Stops
+pub use Rattle.pac_board.specs.StopsProofs
 pub use Rattle.pac_board.specs.Walk
 pub use Rattle.pac_board.specs.Due
 pub use Rattle.pac_board.specs.declared.fault.Idle

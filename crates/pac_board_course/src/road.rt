@@ -4,7 +4,7 @@ ghost use Rattle.std.specs.Prelude.{◌≡◌, ◌<◌, ◌≤◌, ◌+◌, ◌*
 ghost use Rattle.pac_board.specs.SinksLaws.{by};
 ghost use Rattle.pac_board.specs.State as state;
 ghost use Rattle.pac_board.specs.Step.{frame_ticks};
-ghost use Rattle.pac_board.specs.Stops.{PassesBy};
+ghost use Rattle.pac_board.specs.StopsProofs.{PassesBy};
 ghost use Rattle.pac_board.specs.Trails.{IsNoted};
 ghost use Rattle.pac_inputs.specs.Stretches.{most_frames, total_frames};
 ghost use Rattle.pac_board_course.specs.Course.{next_in};

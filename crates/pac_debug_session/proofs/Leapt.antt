@@ -6,7 +6,7 @@ use Rattle.std.specs.List.{list_any}
 use Rattle.std.proofs.lemmas.Bool.Decides.{nat_tests}
 use Rattle.circular_buffer.specs.Buffer.{keep_last}
 use mathlib.Core.List.{IsPrefix}
-use Rattle.pac_board_course.specs.Turns.{board_at}
+use Rattle.pac_board_course.specs.TurnsProofs.{board_at}
 use Rattle.pac_board_course.specs.BoardView.{BoardView}
 use Rattle.pac_board_course.specs.Calls.{now_after}
 use Rattle.pac_board_course.specs.Course.{CourseValue, next_in, way_walked}
@@ -18,7 +18,7 @@ use Rattle.pac_board_course.specs.Sinks.{TookAll}
 use Rattle.pac_board_course.specs.State.{BoardValue, nothing_due, due_outputs, due_outputs_in, steps_counted}
 use Rattle.pac_board_course.specs.Step.{Moment, Next, Goes, frame_ticks}
 use Rattle.pac_board_course.specs.Stop.{Stop}
-use Rattle.pac_board_course.specs.Stops.{PassesBy}
+use Rattle.pac_board_course.specs.StopsProofs.{PassesBy}
 use Rattle.pac_board_course.specs.Stretch.{Stretch}
 use Rattle.pac_board_course.specs.Plays.{IsCourseHeldUp}
 use Rattle.pac_board_course.specs.Told.{HasEndedBy, PlaysTold}

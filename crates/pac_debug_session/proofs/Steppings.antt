@@ -12,7 +12,7 @@ use Rattle.pac_board_course.specs.State.{BoardValue, nothing_due, steps_counted}
 use Rattle.pac_board_course.specs.Trace.{by_view}
 use Rattle.pac_board_course.specs.Stretches.{held}
 use Rattle.pac_board_course.proofs.Begun.{play-same}
-use Rattle.pac_board_course.specs.Turns.{board_at}
+use Rattle.pac_board_course.specs.TurnsProofs.{board_at}
 use Rattle.pac_board_course.specs.Course.{CourseValue, held_in, next_in}
 use Rattle.pac_board_course.specs.PastStep.{PastStep}
 use Rattle.pac_debug_session.specs.declared.kept.SessionSnapshot.{SessionSnapshot}

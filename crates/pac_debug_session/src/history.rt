@@ -7,7 +7,7 @@ ghost use Rattle.pac_board_course.specs.SinksLaws.{by};
 ghost use Rattle.pac_board_course.specs.State as state;
 ghost use Rattle.pac_board_course.specs.Step.{frame_ticks};
 ghost use Rattle.pac_board_course.specs.Stretches.{most_frames, total_frames};
-ghost use Rattle.pac_board_course.specs.Stops.{PassesBy};
+ghost use Rattle.pac_board_course.specs.StopsProofs.{PassesBy};
 ghost use Rattle.pac_board_course.specs.Told.{PlaysTold};
 ghost use Rattle.pac_board_course.specs.Trails.{IsNoted};
 ghost use Rattle.pac_debug_session.specs.Past.{told_step_count};

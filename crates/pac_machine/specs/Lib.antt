@@ -6,5 +6,6 @@ pub mod Bursts
 pub mod BurstsProofs
 pub mod Trails
 pub mod Stops
+pub mod StopsProofs
 pub mod Fields
 pub use Rattle.pac_wave.specs.Wave

@@ -1,7 +1,8 @@
 //! Addresses before which steps are to stop.
 
 ghost use Rattle.std.specs.Prelude.{◌≡◌, None, Some};
-ghost use Rattle.pac_machine.specs.Stops as stops;
+ghost use Rattle.pac_machine.specs.Stops.{is_stop};
+ghost use Rattle.pac_machine.specs.StopsProofs.{first_look};
 
 use std::marker::Model;
 
@@ -43,7 +44,7 @@ impl<'a> Stops<'a> {
     /// The time from which on steps look where they begin: at once where there is a map, and else never before the time at which they end.
     #[inline(always)]
     pub(crate) fn first_look(&self, end: u64) -> u64
-        ensures { result ≡ stops.first_look self.now end }
+        ensures { result ≡ first_look self.now end }
     {
         match self.marks {
             Some(_) => 0,
@@ -54,7 +55,7 @@ impl<'a> Stops<'a> {
     /// Whether steps are to stop before this address.
     #[inline(always)]
     pub fn has(&self, address: u16) -> bool
-        ensures { result ≡ stops.is_stop self.now address }
+        ensures { result ≡ is_stop self.now address }
     {
         match self.marks {
             Some(marks) => marks[usize::from(address)] != 0,

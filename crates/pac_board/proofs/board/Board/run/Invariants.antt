@@ -2,7 +2,7 @@
 use Rattle.std.proofs.Common.{◌+◌, ◌-◌, ◌≤◌}
 use Rattle.pac_board_model.specs.Step.{step}
 use Rattle.pac_board_model.specs.Trace.{by_view}
-use Rattle.pac_machine.specs.Stops.{PassesBy}
+use Rattle.pac_machine.specs.StopsProofs.{PassesBy}
 use Rattle.pac_board.specs.Stretches.{IsTold}
 use Rattle.pac_board.proofs.Turns.{IsUnderway}
 use Rattle.pac_board.proofs.board.Board.run.Given as goal

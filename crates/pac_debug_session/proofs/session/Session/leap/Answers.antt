@@ -5,7 +5,7 @@ use Rattle.pac_board_course.specs.Course.{CourseValue, next_in}
 use Rattle.pac_board_course.specs.Frames.{frame_end}
 use Rattle.pac_board_course.specs.SinksLaws.{by}
 use Rattle.pac_board_course.specs.State.{BoardValue, nothing_due}
-use Rattle.pac_board_course.specs.Stops.{PassesBy}
+use Rattle.pac_board_course.specs.StopsProofs.{PassesBy}
 use Rattle.pac_board_course.specs.Stretch.{Stretch}
 use Rattle.pac_board_course.specs.Told.{PlaysTold}
 use Rattle.pac_board_course.specs.Trails.{IsNoted}
