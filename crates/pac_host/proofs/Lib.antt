@@ -14,3 +14,6 @@ pub mod Woven
 pub mod Becoming
 pub mod Loaded
 pub mod Recomposing
+pub mod Walks
+pub mod LiveHandle
+pub mod LiveMade

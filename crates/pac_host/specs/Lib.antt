@@ -1,6 +1,10 @@
 pub mod Codes
 pub mod Handed
 pub mod Host
+pub mod LiveMemory
+pub mod Handle
+pub mod Live
+pub mod LiveHanded
 pub mod HostLaws
 pub mod RoomLaws
 pub mod Films

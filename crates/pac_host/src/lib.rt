@@ -7,6 +7,8 @@ ghost use Rattle.pac_board.specs.State.{board_after_reset};
 ghost use Rattle.pac_state.specs.Saved.{file_size};
 ghost use Rattle.pac_host.specs.Codes.{Answers};
 ghost use Rattle.pac_host.specs.Host as host;
+ghost use Rattle.pac_host.specs.Live as live_specs;
+ghost use Rattle.pac_host.specs.LiveMemory.{live_size};
 
 mod block;
 mod calls;
@@ -15,6 +17,8 @@ mod draw;
 mod files;
 mod fronts;
 pub mod laws;
+mod live;
+mod live_calls;
 mod passed;
 mod peek;
 mod pixels;
@@ -26,6 +30,7 @@ mod time;
 pub use block::PacBoard;
 pub use codes::HostFault;
 use codes::code;
+pub use live::PacLive;
 use pac_board::{Flags, Inputs};
 pub use ran::{PacRan, RanBytes};
 
@@ -123,4 +128,67 @@ pub extern "C" fn pac_peek(board: &PacBoard, roms: &[u8], address: u16, bytes: &
     ensures { Answers (λ answer. host.Peeks roms.now board.now.bytes address bytes.old answer bytes.new) result }
 {
     code(peek::peek(board, roms, address, bytes))
+}
+
+/// The bytes of memory that a live board takes.
+#[unsafe(no_mangle)]
+pub extern "C" fn pac_live_size() -> usize
+    ensures { result ≡ live_size }
+{
+    live_calls::size()
+}
+
+/// Opens a handle: its memory becomes the board at power-on, with these ROMs and the byte of the DIP switches. A board that lay there before
+/// is gone.
+/// `WrongLength`: `roms` hasn't 25,120 bytes, or `live->size` is less than `pac_live_size()`.
+#[unsafe(no_mangle)]
+pub extern "C" fn pac_live_open(live: &mut PacLive, roms: &[u8], switches: u8) -> u32
+    ensures { Answers (λ answer. live_specs.Opens roms.now switches answer live.old live.new) result }
+{
+    code(live_calls::open(live, roms, switches))
+}
+
+/// Closes a handle: its memory is the host's, which may open it again. `Closed`.
+#[unsafe(no_mangle)]
+pub extern "C" fn pac_live_close(live: &mut PacLive) -> u32
+    ensures { Answers (λ answer. live_specs.Closes answer live.old live.new) result }
+{
+    code(live_calls::close(live))
+}
+
+/// Becomes the board of a block and ROMs. `Closed`.
+/// `WrongLength`: `roms` hasn't 25,120 bytes. `NoBoard`.
+#[unsafe(no_mangle)]
+pub extern "C" fn pac_live_put(live: &mut PacLive, roms: &[u8], board: &PacBoard) -> u32
+    ensures { Answers (λ answer. live_specs.Lives (Unit {0}) (live_specs.Putting roms.now board.now.bytes) answer live.old live.new) result }
+{
+    code(live_calls::put(live, roms, board))
+}
+
+/// Writes the board's block, whatever `board` was before: a snapshot, which any call of a block and `pac_live_put` take. `Closed`.
+#[unsafe(no_mangle)]
+pub extern "C" fn pac_live_give(live: &mut PacLive, board: &mut PacBoard) -> u32
+    ensures { Answers (λ answer. live_specs.Lives (board.new.bytes ≡ board.old.bytes) (live_specs.Giving board.new.bytes)
+        answer live.old live.new) result }
+{
+    code(live_calls::give(live, board))
+}
+
+/// What the watchdog does: as `pac_reset`. `Closed`.
+#[unsafe(no_mangle)]
+pub extern "C" fn pac_live_reset(live: &mut PacLive) -> u32
+    ensures { Answers (λ answer. live_specs.Lives (Unit {0}) (live_specs.Becoming board_after_reset) answer live.old live.new) result }
+{
+    code(live_calls::reset(live))
+}
+
+/// Lets the inputs of `clear` go, and then holds those of `set`: as `pac_hold`. `Closed`.
+#[unsafe(no_mangle)]
+pub extern "C" fn pac_live_hold(live: &mut PacLive, set: u16, clear: u16) -> u32
+    ensures { Answers (λ answer. live_specs.Lives (Unit {0}) (live_specs.Becoming (host.board_holding set clear))
+        answer live.old live.new) result }
+{
+    let set = Inputs::from_bits_retain(set);
+    let clear = Inputs::from_bits_retain(clear);
+    code(live_calls::hold(live, set, clear))
 }
