@@ -17,3 +17,5 @@ pub mod Recomposing
 pub mod Walks
 pub mod LiveHandle
 pub mod LiveMade
+pub mod LiveRun
+pub mod LiveSteps

@@ -5,6 +5,10 @@ pub mod LiveMemory
 pub mod Handle
 pub mod Live
 pub mod LiveHanded
+pub mod LiveTime
+pub mod LiveStep
+pub mod LiveSteps
+pub mod LiveLook
 pub mod HostLaws
 pub mod RoomLaws
 pub mod Films

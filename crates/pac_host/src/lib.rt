@@ -8,7 +8,10 @@ ghost use Rattle.pac_state.specs.Saved.{file_size};
 ghost use Rattle.pac_host.specs.Codes.{Answers};
 ghost use Rattle.pac_host.specs.Host as host;
 ghost use Rattle.pac_host.specs.Live as live_specs;
+ghost use Rattle.pac_host.specs.LiveLook as live_look_specs;
 ghost use Rattle.pac_host.specs.LiveMemory.{live_size};
+ghost use Rattle.pac_host.specs.LiveStep as live_step_specs;
+ghost use Rattle.pac_host.specs.LiveTime as live_time_specs;
 
 mod block;
 mod calls;
@@ -19,6 +22,9 @@ mod fronts;
 pub mod laws;
 mod live;
 mod live_calls;
+mod live_look;
+mod live_step;
+mod live_time;
 mod passed;
 mod peek;
 mod pixels;
@@ -31,6 +37,7 @@ pub use block::PacBoard;
 pub use codes::HostFault;
 use codes::code;
 pub use live::PacLive;
+pub use live_look::PacRegisters;
 use pac_board::{Flags, Inputs};
 pub use ran::{PacRan, RanBytes};
 
@@ -191,4 +198,60 @@ pub extern "C" fn pac_live_hold(live: &mut PacLive, set: u16, clear: u16) -> u32
     let set = Inputs::from_bits_retain(set);
     let clear = Inputs::from_bits_retain(clear);
     code(live_calls::hold(live, set, clear))
+}
+
+/// Lets so many microseconds go by: as `pac_exec`. `Closed`. `TooLong`. `NoRoom`, as there.
+#[unsafe(no_mangle)]
+pub extern "C" fn pac_live_exec(
+    live: &mut PacLive,
+    microseconds: u32,
+    samples: &mut [i16],
+    ran: &mut RanBytes,
+) -> u32
+    ensures { Answers (λ answer. live_specs.Lives ((samples.new ≡ samples.old) × (ran.new.bytes ≡ ran.old.bytes))
+        (live_time_specs.Executing microseconds samples.old samples.new ran.old.bytes ran.new.bytes)
+        answer live.old live.new) result }
+{
+    code(live_time::exec(live, microseconds, samples, ran))
+}
+
+/// Does exactly one step: an instruction, one round of a repeating one, a halted step or an interrupt's acceptance. Its samples go to the head
+/// of `samples`, and what was done to `ran`. Where the board stops, no step is done, and `ran.stop` tells why. What was asked in all stays, so
+/// `pac_live_exec` goes on from there to the time that it would have gone to. `Closed`. `TooLong`.
+/// `NoRoom`: room for 2 samples is always enough.
+#[unsafe(no_mangle)]
+pub extern "C" fn pac_live_step(live: &mut PacLive, samples: &mut [i16], ran: &mut RanBytes) -> u32
+    ensures { Answers (λ answer. live_specs.Lives ((samples.new ≡ samples.old) × (ran.new.bytes ≡ ran.old.bytes))
+        (live_step_specs.Stepping samples.old samples.new ran.old.bytes ran.new.bytes) answer live.old live.new) result }
+{
+    code(live_step::step(live, samples, ran))
+}
+
+/// Writes what the processor would read at as many addresses as `bytes` has room for, the first of which is `address`: as `pac_peek`.
+/// `Closed`.
+#[unsafe(no_mangle)]
+pub extern "C" fn pac_live_peek(live: &mut PacLive, address: u16, bytes: &mut [u8]) -> u32
+    ensures { Answers (λ answer. live_specs.Lives (bytes.new ≡ bytes.old) (live_look_specs.Peeking address bytes.old bytes.new)
+        answer live.old live.new) result }
+{
+    code(live_look::peek(live, address, bytes))
+}
+
+/// Tells the registers. `Closed`.
+#[unsafe(no_mangle)]
+pub extern "C" fn pac_live_registers(live: &mut PacLive, registers: &mut PacRegisters) -> u32
+    ensures { Answers (λ answer. live_specs.Lives (registers.new ≡ registers.old) (live_look_specs.Telling registers.new)
+        answer live.old live.new) result }
+{
+    code(live_look::tell(live, registers))
+}
+
+/// Draws the picture as it stands: as `pac_draw`. `Closed`.
+/// `WrongLength`: `rgba` hasn't 258,048 bytes.
+#[unsafe(no_mangle)]
+pub extern "C" fn pac_live_draw(live: &mut PacLive, rgba: &mut [u8]) -> u32
+    ensures { Answers (λ answer. live_specs.Lives (rgba.new ≡ rgba.old) (live_look_specs.Drawing rgba.old rgba.new)
+        answer live.old live.new) result }
+{
+    code(live_look::draw(live, rgba))
 }
