@@ -286,6 +286,14 @@ uint32_t pac_live_registers(pac_live *live, pac_registers *registers);
  * PAC_LENGTH: `rgba_length` isn't PAC_RGBA_SIZE. */
 uint32_t pac_live_draw(pac_live *live, uint8_t *rgba, size_t rgba_length);
 
+/* Writes the board's state file, with the digest of its ROM set in it: as `pac_save`. PAC_CLOSED.
+ * PAC_LENGTH: `text_length` isn't PAC_STATE_SIZE. */
+uint32_t pac_live_save(pac_live *live, uint8_t *text, size_t text_length);
+
+/* Takes the state of a state file of the board's ROMs, of any length: as `pac_load`. PAC_CLOSED.
+ * PAC_V1 to PAC_V6: the file is refused, docs/FORMATS.md says why; a wrong length is PAC_V3. */
+uint32_t pac_live_load(pac_live *live, const uint8_t *text, size_t text_length);
+
 /* Whether this header's board is the library's: look once, at the start. */
 static inline int pac_matches(void)
 {
@@ -389,6 +397,16 @@ static inline uint32_t pac_live_registers_checked(pac_live *live, pac_registers 
 static inline uint32_t pac_live_draw_checked(pac_live *live, uint8_t *rgba, size_t rgba_length)
 {
     return live && rgba ? pac_live_draw(live, rgba, rgba_length) : (uint32_t)PAC_NULL;
+}
+
+static inline uint32_t pac_live_save_checked(pac_live *live, uint8_t *text, size_t text_length)
+{
+    return live && text ? pac_live_save(live, text, text_length) : (uint32_t)PAC_NULL;
+}
+
+static inline uint32_t pac_live_load_checked(pac_live *live, const uint8_t *text, size_t text_length)
+{
+    return live && text ? pac_live_load(live, text, text_length) : (uint32_t)PAC_NULL;
 }
 
 #ifdef __cplusplus

@@ -19,3 +19,4 @@ pub mod LiveHandle
 pub mod LiveMade
 pub mod LiveRun
 pub mod LiveSteps
+pub mod LiveTaken

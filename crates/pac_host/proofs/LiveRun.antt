@@ -1,5 +1,5 @@
 -- A call for some time on a board: why it isn't done.
-use Rattle.std.proofs.Common.{◌≡◌, ◌≤◌, ◌<◌, ◌+◌, ◌-◌, ◌^◌, min, ℕ, ℤ, List, length, Ok, Err, subst}
+use Rattle.std.proofs.Common.{◌≡◌, ◌≤◌, ◌<◌, ◌+◌, ◌-◌, ◌^◌, min, ℕ, ℤ, List, length, Err, subst}
 use Rattle.pac_board.specs.State.{BoardState, BoardValue, most_asked}
 use Rattle.pac_host.specs.declared.codes.HostFault.{HostFault}
 use Rattle.pac_host.specs.declared.codes.HostFault.TheVariants.{WrongLength, NoBoard, TooLong, NoRoom, NoFile, Closed}

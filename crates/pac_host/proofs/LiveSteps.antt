@@ -1,5 +1,5 @@
 -- One step of a board: how many samples and pictures it gives, and that none is refused where there is room for two.
-use Rattle.std.proofs.Common.{◌≡◌, ◌≤◌, ◌<◌, ℕ, suc, zero, ◌+◌, ◌-◌, ◌^◌, [], ◌++◌, length, Option, None, Some, ℤ, Err, refl, sym, ap, ◌∙◌, arith, ◌⊎◌, inl, inr}
+use Rattle.std.proofs.Common.{◌≡◌, ◌≤◌, ◌<◌, ℕ, suc, zero, ◌+◌, length, Option, None, Some, ℤ, Err, refl, sym, ap, ◌∙◌, arith, ◌⊎◌, inl, inr}
 use Rattle.pac_board_model.specs.BoardView.{BoardView}
 use Rattle.pac_board_model.specs.Output.{image_of, sound_count, picture_count}
 use Rattle.pac_board_model.specs.Step.{Moment, Next, Goes, Ends, step}
@@ -7,7 +7,7 @@ use Rattle.pac_board_model.specs.Trace.{by_view}
 use Rattle.pac_board_model.specs.Walk.{walk, walk_at_start, walk_after_step}
 use Rattle.pac_board_model.proofs.Walks.{going-steps, open-goes-on}
 use Rattle.pac_board_model.proofs.WalkTimes.{walks-are-timed}
-use Rattle.pac_board.specs.CallsLaws.{StepsOnce, IsOfferRefused, IsStepRefused, next_of, once_at, once_of_board, outputs_in}
+use Rattle.pac_board.specs.CallsLaws.{StepsOnce, IsOfferRefused, IsStepRefused, next_of, once_at, outputs_in}
 use Rattle.pac_board.specs.declared.fault.Fault.{Fault}
 use Rattle.pac_board.specs.declared.fault.Fault.TheVariants.{TooFar, Refused}
 use Rattle.pac_board.specs.SinksLaws.{by}

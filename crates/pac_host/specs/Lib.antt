@@ -9,6 +9,7 @@ pub mod LiveTime
 pub mod LiveStep
 pub mod LiveSteps
 pub mod LiveLook
+pub mod LiveFiles
 pub mod HostLaws
 pub mod RoomLaws
 pub mod Films

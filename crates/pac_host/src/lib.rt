@@ -8,6 +8,7 @@ ghost use Rattle.pac_state.specs.Saved.{file_size};
 ghost use Rattle.pac_host.specs.Codes.{Answers};
 ghost use Rattle.pac_host.specs.Host as host;
 ghost use Rattle.pac_host.specs.Live as live_specs;
+ghost use Rattle.pac_host.specs.LiveFiles as live_files_specs;
 ghost use Rattle.pac_host.specs.LiveLook as live_look_specs;
 ghost use Rattle.pac_host.specs.LiveMemory.{live_size};
 ghost use Rattle.pac_host.specs.LiveStep as live_step_specs;
@@ -22,6 +23,7 @@ mod fronts;
 pub mod laws;
 mod live;
 mod live_calls;
+mod live_files;
 mod live_look;
 mod live_step;
 mod live_time;
@@ -254,4 +256,23 @@ pub extern "C" fn pac_live_draw(live: &mut PacLive, rgba: &mut [u8]) -> u32
         answer live.old live.new) result }
 {
     code(live_look::draw(live, rgba))
+}
+
+/// Writes the board's state file, with the digest of its ROM set in it: as `pac_save`. `Closed`.
+/// `WrongLength`: `text` hasn't 67,756 bytes.
+#[unsafe(no_mangle)]
+pub extern "C" fn pac_live_save(live: &mut PacLive, text: &mut [u8]) -> u32
+    ensures { Answers (λ answer. live_specs.Lives (text.new ≡ text.old) (live_files_specs.Saving text.old text.new)
+        answer live.old live.new) result }
+{
+    code(live_files::save(live, text))
+}
+
+/// Takes the state of a state file of the board's ROMs, of any length: as `pac_load`. `Closed`.
+/// `NoFile`: the file is refused, docs/FORMATS.md says why; a wrong length is V3.
+#[unsafe(no_mangle)]
+pub extern "C" fn pac_live_load(live: &mut PacLive, text: &[u8]) -> u32
+    ensures { Answers (λ answer. live_specs.Lives (Unit {0}) (live_files_specs.Loading text.now) answer live.old live.new) result }
+{
+    code(live_files::load(live, text))
 }

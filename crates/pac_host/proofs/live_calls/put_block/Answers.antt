@@ -1,7 +1,7 @@
 -- The board of the block and the ROMs.
 use Rattle.std.proofs.Common.{ap, ◌∙◌}
 use Rattle.pac_board.specs.Fields.{state_of}
-use Rattle.pac_board.specs.State.{BoardState, BoardValue}
+use Rattle.pac_board.specs.State.{BoardState}
 use Rattle.pac_board.specs.StateLaws.{restored_board}
 use Rattle.pac_host.specs.Host.{set_of_roms}
 use Rattle.pac_host.proofs.live_calls.put_block.Goals as goal

@@ -1,11 +1,10 @@
 -- The buffer has the step's samples, since there is room for them.
-use Rattle.std.proofs.Common.{◌≡◌, ◌+◌, ◌-◌, ◌++◌, drop, ap, ◌∙◌, arith, rules}
+use Rattle.std.proofs.Common.{◌≡◌, ◌-◌, ◌++◌, drop, ap, ◌∙◌, arith, rules}
 use Rattle.pac_board.specs.CallsLaws.{next_of}
 use Rattle.pac_board.specs.Output.{sound_count, picture_count}
-use Rattle.pac_board.specs.State.{BoardValue}
 use Rattle.pac_host.specs.Codes.{ran_of}
 use Rattle.pac_host.specs.Host.{samples_given}
-use Rattle.pac_host.specs.LiveStep.{outputs_of_step, stop_in}
+use Rattle.pac_host.specs.LiveStep.{outputs_of_step}
 use Rattle.pac_host.specs.LiveSteps.{stop_of_once}
 use Rattle.pac_host.proofs.LiveSteps.{few-sounds, few-pictures, once-stop, step-done}
 use Rattle.pac_host.proofs.Sounding.{are-written}

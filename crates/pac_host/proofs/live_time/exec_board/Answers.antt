@@ -1,7 +1,7 @@
 -- A call for some time on a board.
-use Rattle.std.proofs.Common.{◌≤◌, ◌+◌, ◌-◌, ◌^◌, min, length, ◌∙◌, ap, subst, sym, refl}
+use Rattle.std.proofs.Common.{◌≤◌, ◌+◌, ◌-◌, ◌^◌, min, length, ◌∙◌, subst, sym, refl}
 use Rattle.std.proofs.lemmas.Result.{err_from_is_err_and}
-use Rattle.pac_board.specs.Calls.{course, board_after_run}
+use Rattle.pac_board.specs.Calls.{course}
 use Rattle.pac_board.specs.State.{BoardState, BoardValue, most_asked}
 use Rattle.pac_host.specs.Handed.{StopsEarly}
 use Rattle.pac_host.specs.Host.{most_samples, state_left}

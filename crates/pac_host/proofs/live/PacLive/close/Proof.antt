@@ -1,5 +1,5 @@
 -- The seal of an open handle is taken away, and the board's memory is room again.
-use Rattle.pac_host.proofs.Walks.{ℕ, List, [], ◌∷◌, ◌≡◌, ◌==◌, Bool, true, false, refl, sym, ap, ◌∙◌, lit<, proved, Ura, full_share, id⊢, ent, Fml, ftrue, fat, flft, froom, named, Val, vunit, Logic, sem, tables, ‵, raw, ◌⊛◌, some, ◌$◌, ◌∵◌, !, qed, by, done, move, keep, drop, use1, split, join, fsplit3, pick, rewrite, suffices, frame, group, feq_i, enter, of_opd, lit, unit_lit, assigns, returns, stop, fld, alloc_all, pass_all, free_all, look_at, through, sets, Ptr, block_ptr, lies_at, room_at, in_a_block, part_at, part_out, lone, MutRef, mut_vals, mut_Tells, plain, nothing, heard, Stays, walk_of, says, stay_ref, Goes-ref, ends_at, whole, sub, store_in}
+use Rattle.pac_host.proofs.Walks.{[], ◌∷◌, ◌≡◌, ◌==◌, Bool, true, false, refl, sym, ap, lit<, proved, Ura, full_share, id⊢, ent, ftrue, fat, flft, froom, named, Val, vunit, Logic, sem, ‵, raw, ◌⊛◌, some, ◌$◌, ◌∵◌, !, qed, done, move, keep, drop, use1, split, join, fsplit3, pick, rewrite, suffices, frame, group, feq_i, enter, of_opd, lit, unit_lit, assigns, returns, stop, fld, alloc_all, pass_all, free_all, look_at, through, sets, Ptr, lies_at, room_at, in_a_block, part_out, lone, MutRef, mut_vals, mut_Tells, plain, nothing, heard, Stays, walk_of, says, stay_ref, Goes-ref, ends_at, whole, sub, store_in}
 use Rattle.std.specs.Prelude.{nat_le}
 use Rattle.pac_board.specs.State.{BoardValue}
 use Rattle.pac_board.specs.contracts.board.Board.{the_row as B}

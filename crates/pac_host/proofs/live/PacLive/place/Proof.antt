@@ -1,9 +1,8 @@
 -- A board is written into the memory that a closed handle is lent, and the seal is set.
-use Rattle.pac_host.proofs.Walks.{ℕ, List, [], ◌∷◌, ◌≡◌, ◌==◌, Bool, true, false, refl, sym, ap, subst, ◌∙◌, proved_at, full_share, id⊢, SProp, Fml, ftrue, fat, flft, froom, named, Val, vunit, vint, w64, tables, ‵, raw, ◌⊛◌, prop, at_ret, ◌$◌, ◌∵◌, !, qed, done, move, keep, drop, use1, use2, split, join, fsplit, fsplit3, fjoin, feq_i, feq_l, rewrite, regoal, suffices, frame, group, enter, of_opd, load, unit_lit, assigns, assigns_last, init, first, blocks, exec, returns, stop, fld, hop, alloc_all, pass_all, free_all, look_at, get, through, sets, env, WpFn, Ptr, block_ptr, lies_at, room_at, in_a_block, part_at, part_in, lone, MutRef, mut_Tells, uint_Tells, cell_at, ◌++◌, plain, types_at, alive, owns, u64, nothing, heard, peeks, Stays, walk_of, says, stay_ref, stay_dropped, Goes-ref, Goes-dropped, Goes-blank, ends_at, whole, sub, look_in, store_in, after}
+use Rattle.pac_host.proofs.Walks.{ℕ, List, [], ◌∷◌, ◌≡◌, ◌==◌, true, false, refl, sym, ap, proved_at, full_share, id⊢, SProp, ftrue, flft, named, Val, vunit, w64, tables, ‵, raw, ◌⊛◌, prop, at_ret, ◌$◌, ◌∵◌, !, qed, done, move, keep, use2, split, join, fsplit, fsplit3, feq_i, rewrite, regoal, suffices, frame, group, enter, of_opd, load, unit_lit, assigns, assigns_last, init, first, blocks, exec, returns, stop, fld, alloc_all, pass_all, free_all, look_at, get, through, sets, env, WpFn, Ptr, lies_at, room_at, in_a_block, part_at, part_in, lone, mut_Tells, uint_Tells, cell_at, ◌++◌, plain, types_at, owns, u64, nothing, heard, Stays, walk_of, says, stay_ref, stay_dropped, Goes-ref, Goes-dropped, Goes-blank, ends_at, whole, sub, look_in, store_in, after}
 use Rattle.std.proofs.Common.{◌≢◌, ◌≤◌, arith}
 use Rattle.std.proofs.lemmas.Bool.Decides.{nat_tests}
 use Rattle.std.specs.Prelude.{nat_le}
-use Rattle.pac_board.specs.State.{BoardValue}
 use Rattle.pac_board.specs.contracts.board.Board.{the_row as B}
 use Rattle.pac_board.proofs.board.Board.TheLaws as board_laws
 use Rattle.pac_host.specs.contracts.live.PacLive.{the_row as R}

@@ -1,5 +1,5 @@
 -- A word of the handle is read: the borrow is opened, the word is copied, and the borrow is closed as it was.
-use Rattle.pac_host.proofs.Walks.{List, [], ◌∷◌, refl, w64, proved, ftrue, flft, named, Val, vint, tables, ‵, ◌⊛◌, ◌$◌, ◌∵◌, !, qed, done, move, keep, split, join, fsplit3, suffices, frame, group, enter, of_opd, load, stop, fld, returns, alloc_all, pass_all, free_all, look_at, through, sets, usize, MutRef, mut_vals, mut_Tells, plain, nothing, owned, Stays, walk_of, says, stay_ref, Goes-ref, ends_at, uint_Makes, whole, sub, look_in}
+use Rattle.pac_host.proofs.Walks.{[], ◌∷◌, refl, w64, proved, ftrue, flft, named, vint, ‵, ◌⊛◌, ◌$◌, ◌∵◌, !, qed, done, move, keep, split, join, fsplit3, suffices, frame, group, enter, of_opd, load, stop, fld, returns, alloc_all, pass_all, free_all, look_at, through, sets, usize, MutRef, mut_vals, mut_Tells, plain, nothing, owned, Stays, walk_of, says, stay_ref, Goes-ref, ends_at, uint_Makes, whole, sub, look_in}
 use Rattle.pac_host.specs.contracts.live.PacLive.{the_row as R}
 use Rattle.pac_host.proofs.LiveHandle.{handle_opens, handle_closes}
 use Rattle.pac_host.specs.contracts.live.PacLive.size as f
