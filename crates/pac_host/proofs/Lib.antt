@@ -20,3 +20,4 @@ pub mod LiveMade
 pub mod LiveRun
 pub mod LiveSteps
 pub mod LiveTaken
+pub mod LiveBoards

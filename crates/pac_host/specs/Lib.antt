@@ -10,6 +10,7 @@ pub mod LiveStep
 pub mod LiveSteps
 pub mod LiveLook
 pub mod LiveFiles
+pub mod LiveLaws
 pub mod HostLaws
 pub mod RoomLaws
 pub mod Films
