@@ -1,15 +1,7 @@
 -- Believed: the handle of a live board.
-use Rattle.std.specs.Prelude.{◌≡◌, ◌≢◌, ◌≤◌, ℕ}
 use Rattle.pac_board.specs.State.{BoardValue}
 use Rattle.pac_host.specs.declared.live.PacLive.{PacLive}
-use Rattle.pac_host.specs.LiveMemory.{live_seal, live_size}
 
 -- the handle of another board in the same memory
 abbrev pub live_with_board : PacLive → BoardValue → PacLive
 live_with_board live board = record live { board = board }
-
--- a closed handle that is lent memory enough, and is to be opened
-pub record IsLent (live : PacLive) (seal : ℕ) : Type 0 where
-  pub closed : live.seal ≢ live_seal
-  pub size : live_size ≤ live.size
-  pub seal_is : seal ≡ live_seal

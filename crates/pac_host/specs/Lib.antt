@@ -3,6 +3,7 @@ pub mod Handed
 pub mod Host
 pub mod LiveMemory
 pub mod Handle
+pub mod Lent
 pub mod Live
 pub mod LiveHanded
 pub mod LiveTime

@@ -32,7 +32,8 @@ impl PacLive {
     ghost use denote.Follow.{follows};
     ghost use Rattle.pac_board.specs.contracts.board.Board.{the_row as board_row};
     ghost use Rattle.pac_host.specs.contracts.live.PacLive.{the_row as live_row};
-    ghost use Rattle.pac_host.specs.Handle.{IsLent, live_with_board};
+    ghost use Rattle.pac_host.specs.Handle.{live_with_board};
+    ghost use Rattle.pac_host.specs.Lent.{IsLent};
     ghost use Rattle.pac_host.specs.LiveMemory.{live_seal};
 
     /// The seal.

@@ -6,7 +6,8 @@ use Rattle.std.specs.Prelude.{nat_le}
 use Rattle.pac_board.specs.contracts.board.Board.{the_row as B}
 use Rattle.pac_board.proofs.board.Board.TheLaws as board_laws
 use Rattle.pac_host.specs.contracts.live.PacLive.{the_row as R}
-use Rattle.pac_host.specs.Handle.{IsLent, live_with_board}
+use Rattle.pac_host.specs.Handle.{live_with_board}
+use Rattle.pac_host.specs.Lent.{IsLent}
 use Rattle.pac_host.specs.LiveMemory.{live_memory, live_seal, live_size}
 use Rattle.pac_host.proofs.LiveHandle.{one, handle_val, handle_opens, handle_closes}
 use Rattle.pac_host.specs.contracts.live.PacLive.place as f
