@@ -32,6 +32,7 @@ enum {
     PAC_STATE = 2,  /* the block isn't the state of a board */
     PAC_TIME = 3,   /* the microseconds that were asked of the board in all would pass 2^50 */
     PAC_ROOM = 4,   /* the buffer has less room than the samples that the call could give */
+    PAC_CLOSED = 5, /* the handle isn't open */
     PAC_V1 = 11,
     PAC_V2 = 12,
     PAC_V3 = 13,
@@ -156,6 +157,48 @@ typedef struct pac_ran {
     uint8_t zero;      /* 0 */
 } pac_ran;
 
+/* A live board in memory that a host lends: `size` bytes from `at` on, which begin at a place that 16 divides. All zeros, or a seal of
+ * another number than an open handle's, is a closed handle. A copy of an open handle is no second board, and isn't handed in. */
+typedef struct pac_live {
+    void *at;      /* where the memory begins */
+    size_t size;   /* its bytes */
+    uint64_t seal; /* whether a board lies there: by one number alone */
+} pac_live;
+
+/* The registers of a board by their names (UM0080, "Z80 CPU Register Description"). */
+typedef struct pac_registers {
+    uint64_t time;          /* T-states since power-on */
+    uint64_t steps;         /* steps since power-on */
+    uint16_t pc;            /* the program counter */
+    uint16_t sp;            /* the stack pointer */
+    uint16_t ix;            /* the first index register */
+    uint16_t iy;            /* the second index register */
+    uint8_t a;              /* A */
+    uint8_t f;              /* F */
+    uint8_t b;              /* B */
+    uint8_t c;              /* C */
+    uint8_t d;              /* D */
+    uint8_t e;              /* E */
+    uint8_t h;              /* H */
+    uint8_t l;              /* L */
+    uint8_t alternate_a;    /* A' */
+    uint8_t alternate_f;    /* F' */
+    uint8_t alternate_b;    /* B' */
+    uint8_t alternate_c;    /* C' */
+    uint8_t alternate_d;    /* D' */
+    uint8_t alternate_e;    /* E' */
+    uint8_t alternate_h;    /* H' */
+    uint8_t alternate_l;    /* L' */
+    uint8_t i;              /* the high byte of the table of interrupt mode 2 */
+    uint8_t r;              /* the refresh counter */
+    uint8_t interrupt_mode; /* 0 to 2 */
+    uint8_t iff1;           /* whether interrupts are accepted */
+    uint8_t iff2;           /* what a non-maskable interrupt would have kept of `iff1` */
+    uint8_t halted;         /* whether HALT has stopped the processor until an interrupt */
+    uint8_t after_ei;       /* whether the last step was EI, after which no interrupt is accepted */
+    uint8_t zero;           /* 0 */
+} pac_registers;
+
 /* The bytes of a board's block: a host that knows another size was made for another library. */
 size_t pac_size(void);
 
@@ -198,6 +241,58 @@ uint32_t pac_load(pac_board *board, const uint8_t *roms, size_t length, const ui
  * 0000H. What it would read of a port has the inputs and the switches as they are.
  * PAC_LENGTH: `length` isn't PAC_ROMS_SIZE. PAC_STATE. */
 uint32_t pac_peek(const pac_board *board, const uint8_t *roms, size_t length, uint16_t address, uint8_t *bytes, size_t bytes_length);
+
+/* The bytes of memory that a live board takes. */
+size_t pac_live_size(void);
+
+/* Opens a handle: its memory becomes the board at power-on, with these ROMs and the byte of the DIP switches. A board that lay there before
+ * is gone.
+ * PAC_LENGTH: `length` isn't PAC_ROMS_SIZE, or `live->size` is less than `pac_live_size()`. */
+uint32_t pac_live_open(pac_live *live, const uint8_t *roms, size_t length, uint8_t switches);
+
+/* Closes a handle: its memory is the host's, which may open it again. PAC_CLOSED. */
+uint32_t pac_live_close(pac_live *live);
+
+/* Becomes the board of a block and ROMs. PAC_CLOSED.
+ * PAC_LENGTH: `length` isn't PAC_ROMS_SIZE. PAC_STATE. */
+uint32_t pac_live_put(pac_live *live, const uint8_t *roms, size_t length, const pac_board *board);
+
+/* Writes the board's block, whatever `board` was before: a snapshot, which any call of a block and `pac_live_put` take. PAC_CLOSED. */
+uint32_t pac_live_give(pac_live *live, pac_board *board);
+
+/* What the watchdog does: as `pac_reset`. PAC_CLOSED. */
+uint32_t pac_live_reset(pac_live *live);
+
+/* Lets the inputs of `clear` go, and then holds those of `set`: as `pac_hold`. PAC_CLOSED. */
+uint32_t pac_live_hold(pac_live *live, uint16_t set, uint16_t clear);
+
+/* Lets so many microseconds go by: as pac_exec. PAC_CLOSED. PAC_TIME. PAC_ROOM, as there. */
+uint32_t pac_live_exec(pac_live *live, uint32_t microseconds, int16_t *samples, size_t capacity, pac_ran *ran);
+
+/* Does exactly one step: an instruction, one round of a repeating one, a halted step or an interrupt's acceptance. Its samples go to the
+ * head of `samples`, and what was done to `ran`. Where the board stops, no step is done, and `ran->stop` tells why. What was asked in all
+ * stays, so `pac_live_exec` goes on from there to the time that it would have gone to. PAC_CLOSED. PAC_TIME.
+ * PAC_ROOM: room for 2 samples is always enough. */
+uint32_t pac_live_step(pac_live *live, int16_t *samples, size_t capacity, pac_ran *ran);
+
+/* Writes what the processor would read at as many addresses as `bytes` has room for, the first of which is `address`: as `pac_peek`.
+ * PAC_CLOSED. */
+uint32_t pac_live_peek(pac_live *live, uint16_t address, uint8_t *bytes, size_t bytes_length);
+
+/* Tells the registers. PAC_CLOSED. */
+uint32_t pac_live_registers(pac_live *live, pac_registers *registers);
+
+/* Draws the picture as it stands: as `pac_draw`. PAC_CLOSED.
+ * PAC_LENGTH: `rgba_length` isn't PAC_RGBA_SIZE. */
+uint32_t pac_live_draw(pac_live *live, uint8_t *rgba, size_t rgba_length);
+
+/* Writes the board's state file, with the digest of its ROM set in it: as `pac_save`. PAC_CLOSED.
+ * PAC_LENGTH: `text_length` isn't PAC_STATE_SIZE. */
+uint32_t pac_live_save(pac_live *live, uint8_t *text, size_t text_length);
+
+/* Takes the state of a state file of the board's ROMs, of any length: as `pac_load`. PAC_CLOSED.
+ * PAC_V1 to PAC_V6: the file is refused, docs/FORMATS.md says why; a wrong length is PAC_V3. */
+uint32_t pac_live_load(pac_live *live, const uint8_t *text, size_t text_length);
 
 /* Whether this header's board is the library's: look once, at the start. */
 static inline int pac_matches(void)
@@ -249,11 +344,76 @@ static inline uint32_t pac_peek_checked(const pac_board *board, const uint8_t *r
     return board && roms && bytes ? pac_peek(board, roms, length, address, bytes, bytes_length) : (uint32_t)PAC_NULL;
 }
 
+static inline uint32_t pac_live_open_checked(pac_live *live, const uint8_t *roms, size_t length, uint8_t switches)
+{
+    return live && roms ? pac_live_open(live, roms, length, switches) : (uint32_t)PAC_NULL;
+}
+
+static inline uint32_t pac_live_close_checked(pac_live *live)
+{
+    return live ? pac_live_close(live) : (uint32_t)PAC_NULL;
+}
+
+static inline uint32_t pac_live_put_checked(pac_live *live, const uint8_t *roms, size_t length, const pac_board *board)
+{
+    return live && roms && board ? pac_live_put(live, roms, length, board) : (uint32_t)PAC_NULL;
+}
+
+static inline uint32_t pac_live_give_checked(pac_live *live, pac_board *board)
+{
+    return live && board ? pac_live_give(live, board) : (uint32_t)PAC_NULL;
+}
+
+static inline uint32_t pac_live_reset_checked(pac_live *live)
+{
+    return live ? pac_live_reset(live) : (uint32_t)PAC_NULL;
+}
+
+static inline uint32_t pac_live_hold_checked(pac_live *live, uint16_t set, uint16_t clear)
+{
+    return live ? pac_live_hold(live, set, clear) : (uint32_t)PAC_NULL;
+}
+
+static inline uint32_t pac_live_exec_checked(pac_live *live, uint32_t microseconds, int16_t *samples, size_t capacity, pac_ran *ran)
+{
+    return live && samples && ran ? pac_live_exec(live, microseconds, samples, capacity, ran) : (uint32_t)PAC_NULL;
+}
+
+static inline uint32_t pac_live_step_checked(pac_live *live, int16_t *samples, size_t capacity, pac_ran *ran)
+{
+    return live && samples && ran ? pac_live_step(live, samples, capacity, ran) : (uint32_t)PAC_NULL;
+}
+
+static inline uint32_t pac_live_peek_checked(pac_live *live, uint16_t address, uint8_t *bytes, size_t bytes_length)
+{
+    return live && bytes ? pac_live_peek(live, address, bytes, bytes_length) : (uint32_t)PAC_NULL;
+}
+
+static inline uint32_t pac_live_registers_checked(pac_live *live, pac_registers *registers)
+{
+    return live && registers ? pac_live_registers(live, registers) : (uint32_t)PAC_NULL;
+}
+
+static inline uint32_t pac_live_draw_checked(pac_live *live, uint8_t *rgba, size_t rgba_length)
+{
+    return live && rgba ? pac_live_draw(live, rgba, rgba_length) : (uint32_t)PAC_NULL;
+}
+
+static inline uint32_t pac_live_save_checked(pac_live *live, uint8_t *text, size_t text_length)
+{
+    return live && text ? pac_live_save(live, text, text_length) : (uint32_t)PAC_NULL;
+}
+
+static inline uint32_t pac_live_load_checked(pac_live *live, const uint8_t *text, size_t text_length)
+{
+    return live && text ? pac_live_load(live, text, text_length) : (uint32_t)PAC_NULL;
+}
+
 #ifdef __cplusplus
 }
-static_assert(sizeof(pac_board) == PAC_BOARD_SIZE && sizeof(pac_ran) == 32, "the library's layout");
+static_assert(sizeof(pac_board) == PAC_BOARD_SIZE && sizeof(pac_ran) == 32 && sizeof(pac_registers) == 48, "the library's layout");
 #else
-_Static_assert(sizeof(pac_board) == PAC_BOARD_SIZE && sizeof(pac_ran) == 32, "the library's layout");
+_Static_assert(sizeof(pac_board) == PAC_BOARD_SIZE && sizeof(pac_ran) == 32 && sizeof(pac_registers) == 48, "the library's layout");
 #endif
 
 #endif

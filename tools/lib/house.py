@@ -358,14 +358,14 @@ class House:
 
     @functools.lru_cache(maxsize=None)
     def type_citations(self, ref: Ref) -> list[Ref]:
-        """What a type or trait stands on: its model's value, or else its fields; of a trait, its members and contracts."""
+        """What a type or trait stands on: its model's value, or else its fields and what it owns; of a trait, its members and contracts."""
         source = self.type_source(ref)
         if source is None:
             return []
         model = self.model(source)
-        if model:
-            value = next(clause for name, clause in clauses_of(model.text()) if name == "Value")
-            return self.clause_citations(model, "ghost Value = { " + value + " }", frozenset())
+        members_of_model = dict(clauses_of(model.text())) if model else {}
+        if model and "Value" in members_of_model:
+            return self.clause_citations(model, "ghost Value = { " + members_of_model["Value"] + " }", frozenset())
         text = source.text()
         members = frozenset(re.findall(r"\bghost ([\w-]+)\s*:", text))
         if source.kind == "trait":
@@ -378,6 +378,8 @@ class House:
         fields = frozenset(re.findall(r"\b(\w+)\s*:", text)) | members
         found = dict.fromkeys(self.types_in(without_ghosts(text), source))
         found.update(dict.fromkeys(self.clause_citations(source, text, fields)))
+        if model and "also_owns" in members_of_model:  # (a struct that owns memory beside its fields is seen by them)
+            found.update(dict.fromkeys(self.clause_citations(model, "ghost also_owns = { " + members_of_model["also_owns"] + " }", frozenset())))
         return list(found)
 
     def functions(self, crate: str) -> Iterator[Source]:

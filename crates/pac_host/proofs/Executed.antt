@@ -8,7 +8,7 @@ use Rattle.pac_board.specs.State.{BoardState, BoardValue, most_asked}
 use Rattle.pac_state.specs.Block.{IsBlock}
 use Rattle.pac_state.specs.Reading.{state_in}
 use Rattle.pac_host.specs.declared.codes.HostFault.{HostFault}
-use Rattle.pac_host.specs.declared.codes.HostFault.TheVariants.{WrongLength, NoBoard, TooLong, NoRoom, NoFile}
+use Rattle.pac_host.specs.declared.codes.HostFault.TheVariants.{WrongLength, NoBoard, TooLong, NoRoom, NoFile, Closed}
 use Rattle.pac_host.specs.declared.ran.PacRan.{PacRan}
 use Rattle.pac_host.specs.Codes.{ran_of}
 use Rattle.pac_host.specs.Handed.{MayRun}
@@ -64,3 +64,4 @@ may-not-run NoRoom roms block microseconds samples state roms_are is_block same 
 may-not-run WrongLength roms block microseconds samples state roms_are is_block same not = absurd not
 may-not-run NoBoard roms block microseconds samples state roms_are is_block same not = absurd not
 may-not-run (NoFile fault) roms block microseconds samples state roms_are is_block same not = absurd not
+may-not-run Closed roms block microseconds samples state roms_are is_block same not = absurd not

@@ -26,7 +26,7 @@ use Rattle.pac_state.specs.Reading.{bytes_at_place, state_in}
 use Rattle.pac_state.specs.declared.fault.LoadFault.{LoadFault}
 use Rattle.pac_state.specs.declared.fault.LoadFault.TheVariants.{NoState, OtherVersion, Size, OutOfRange, Damaged, OtherSet, NoMemory}
 use Rattle.pac_host.specs.declared.codes.HostFault.{HostFault}
-use Rattle.pac_host.specs.declared.codes.HostFault.TheVariants.{WrongLength, NoBoard, TooLong, NoRoom, NoFile}
+use Rattle.pac_host.specs.declared.codes.HostFault.TheVariants.{WrongLength, NoBoard, TooLong, NoRoom, NoFile, Closed}
 use Rattle.pac_host.specs.declared.ran.PacRan.{PacRan}
 use Rattle.pac_host.specs.Codes.{Answers, code_of, file_code, cause_number}
 use Rattle.pac_host.specs.Films.{HostsPlayTheFilm, ran_read}
@@ -46,6 +46,7 @@ done-of comes_to (Err WrongLength) code done_is = absurd (cc)
 done-of comes_to (Err NoBoard) code done_is = absurd (cc)
 done-of comes_to (Err TooLong) code done_is = absurd (cc)
 done-of comes_to (Err NoRoom) code done_is = absurd (cc)
+done-of comes_to (Err Closed) code done_is = absurd (cc)
 done-of comes_to (Err (NoFile fault)) code done_is = absurd (choose fault code)
   where
     choose : (fault : LoadFault) → 0 ≡ file_code fault → ⊥

@@ -5,7 +5,7 @@ use Rattle.pac_board.specs.State.{BoardState, most_asked}
 use Rattle.pac_state.specs.Block.{IsBlock}
 use Rattle.pac_state.specs.Reading.{state_in}
 use Rattle.pac_host.specs.declared.codes.HostFault.{HostFault}
-use Rattle.pac_host.specs.declared.codes.HostFault.TheVariants.{WrongLength, NoBoard, TooLong, NoRoom, NoFile}
+use Rattle.pac_host.specs.declared.codes.HostFault.TheVariants.{WrongLength, NoBoard, TooLong, NoRoom, NoFile, Closed}
 use Rattle.pac_host.specs.Codes.{code_of}
 use Rattle.pac_host.specs.Films.{Player, FrameCalls, HasRoom, IsBetweenFrames, IsFrameAnswered, AllFramesAreDone, all_inputs}
 use Rattle.pac_host.specs.Host.{roms_size, board_in, asked_in, board_holding, most_samples, room_of, rgba_size}
@@ -34,6 +34,7 @@ held-done inputs old new block WrongLength not = not.0
 held-done inputs old new block TooLong not = not.0
 held-done inputs old new block NoRoom not = not.0
 held-done inputs old new block (NoFile fault) not = not.0
+held-done inputs old new block Closed not = not.0
 
 exec-done : (roms block : List ℕ) (samples : List ℤ) → length roms ≡ roms_size → IsBlock block → asked_in block + 16500 ≤ most_asked
     → most_samples (state_in block) 16500 ≤ room_of samples → (fault : HostFault) → ExecFails roms block 16500 samples fault → ⊥
@@ -42,6 +43,7 @@ exec-done roms block samples roms_are is_block within room NoBoard not = not.1 i
 exec-done roms block samples roms_are is_block within room TooLong not = let far = not.2 in omega (arith, far, within)
 exec-done roms block samples roms_are is_block within room NoRoom not = let few = not.3 in omega (arith, few, room)
 exec-done roms block samples roms_are is_block within room (NoFile fault) not = not
+exec-done roms block samples roms_are is_block within room Closed not = not
 
 drawn-done : (roms block old new : List ℕ) → length roms ≡ roms_size → length old ≡ rgba_size → IsBlock block → (fault : HostFault)
     → Draws roms block old (Err fault) new → ⊥
@@ -54,6 +56,7 @@ drawn-done roms block old new roms_are size is_block NoBoard not = not.0.2 is_bl
 drawn-done roms block old new roms_are size is_block TooLong not = not.0
 drawn-done roms block old new roms_are size is_block NoRoom not = not.0
 drawn-done roms block old new roms_are size is_block (NoFile fault) not = not.0
+drawn-done roms block old new roms_are size is_block Closed not = not.0
 
 -- ---- a frame
 

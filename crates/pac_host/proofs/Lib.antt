@@ -14,3 +14,10 @@ pub mod Woven
 pub mod Becoming
 pub mod Loaded
 pub mod Recomposing
+pub mod Walks
+pub mod LiveHandle
+pub mod LiveMade
+pub mod LiveRun
+pub mod LiveSteps
+pub mod LiveTaken
+pub mod LiveBoards

@@ -127,7 +127,7 @@ not-refused (Sound sample) rest taken asked new count room full =
     let all = sounds-append taken (Sound sample ∷ rest) in absurd (omega (arith, all, count, room, full))
 not-refused (Show image) rest taken asked new count room full = absurd full
 
-none-refused : {A : Type 0} (outputs left : List Output) (old new : Sounds) → old.taken ≡ 0 → old.pictures ≡ 0
+pub none-refused : {A : Type 0} (outputs left : List Output) (old new : Sounds) → old.taken ≡ 0 → old.pictures ≡ 0
     → sound_count outputs ≤ length old.samples.now → Cut (by sounding_took sounding_refused) old outputs left new → A
 none-refused outputs left old new none no_picture room cut =
     let refuses = cut.refuses in
@@ -139,14 +139,14 @@ none-refused outputs left old new none no_picture room cut =
 
 -- ---- how many come
 
-due-sounds : (sample : Option ℤ) (picture : Bool) (image : Image)
+pub due-sounds : (sample : Option ℤ) (picture : Bool) (image : Image)
     → sound_count (due_with image (record { sample = sample; picture = picture })) ≡ samples_due sample
 due-sounds None true image = refl
 due-sounds None false image = refl
 due-sounds (Some sample) true image = refl
 due-sounds (Some sample) false image = refl
 
-due-pictures : (sample : Option ℤ) (picture : Bool) (image : Image)
+pub due-pictures : (sample : Option ℤ) (picture : Bool) (image : Image)
     → picture_count (due_with image (record { sample = sample; picture = picture })) ≤ 1
 due-pictures None true image = omega arith
 due-pictures None false image = omega arith

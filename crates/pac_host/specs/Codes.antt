@@ -7,7 +7,7 @@ use Rattle.pac_board.specs.Stop.{Stop}
 use Rattle.pac_state.specs.declared.fault.LoadFault.{LoadFault}
 use Rattle.pac_state.specs.declared.fault.LoadFault.TheVariants.{NoState, OtherVersion, Size, OutOfRange, Damaged, OtherSet, NoMemory}
 use Rattle.pac_host.specs.declared.codes.HostFault.{HostFault}
-use Rattle.pac_host.specs.declared.codes.HostFault.TheVariants.{WrongLength, NoBoard, TooLong, NoRoom, NoFile}
+use Rattle.pac_host.specs.declared.codes.HostFault.TheVariants.{WrongLength, NoBoard, TooLong, NoRoom, NoFile, Closed}
 use Rattle.pac_host.specs.declared.ran.PacRan.{PacRan}
 
 -- ---- what a call answers
@@ -30,6 +30,7 @@ code_of (Err WrongLength) = 1
 code_of (Err NoBoard) = 2
 code_of (Err TooLong) = 3
 code_of (Err NoRoom) = 4
+code_of (Err Closed) = 5
 code_of (Err (NoFile fault)) = file_code fault
 
 -- A call answers the number of what it came to.

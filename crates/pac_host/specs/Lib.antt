@@ -1,6 +1,17 @@
 pub mod Codes
 pub mod Handed
 pub mod Host
+pub mod LiveMemory
+pub mod Handle
+pub mod Lent
+pub mod Live
+pub mod LiveHanded
+pub mod LiveTime
+pub mod LiveStep
+pub mod LiveSteps
+pub mod LiveLook
+pub mod LiveFiles
+pub mod LiveLaws
 pub mod HostLaws
 pub mod RoomLaws
 pub mod Films

@@ -18,6 +18,8 @@ pub enum HostFault {
     NoRoom,
     /// The file isn't a state file of these ROMs: V1 to V6, as docs/FORMATS.md says.
     NoFile(LoadFault),
+    /// The handle isn't open.
+    Closed,
 }
 
 /// The number of a state file's fault: 11 to 16 for V1 to V6.
@@ -45,6 +47,7 @@ pub(crate) fn code(answer: Result<(), HostFault>) -> u32
         Err(HostFault::NoBoard) => 2,
         Err(HostFault::TooLong) => 3,
         Err(HostFault::NoRoom) => 4,
+        Err(HostFault::Closed) => 5,
         Err(HostFault::NoFile(fault)) => of_file(fault),
     }
 }

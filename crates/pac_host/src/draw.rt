@@ -17,7 +17,7 @@ use pac_board::{HEIGHT, RawLines, WIDTH, raw_row};
 const LINE: usize = 4 * WIDTH;
 
 /// The bytes of a picture.
-const RGBA_SIZE: usize = LINE * HEIGHT as usize;
+pub(crate) const RGBA_SIZE: usize = LINE * HEIGHT as usize;
 
 /// Writes the pixels of a line from a place on.
 fn put_line(rgba: &mut [u8], at: usize, palette: &Channels, line: &[u8; WIDTH])
@@ -38,7 +38,7 @@ fn put_line(rgba: &mut [u8], at: usize, palette: &Channels, line: &[u8; WIDTH])
 }
 
 /// Draws lines in these colours.
-fn put_lines(rgba: &mut [u8], palette: &Channels, lines: &RawLines)
+pub(crate) fn put_lines(rgba: &mut [u8], palette: &Channels, lines: &RawLines)
     requires picture { IsPicture lines.now }
     requires size { length rgba.old ≡ host.rgba_size }
     ensures { rgba.new ≡ host.rgba_of palette.now lines.now }

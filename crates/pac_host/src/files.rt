@@ -16,10 +16,10 @@ use pac_state::laws::fields_have_states;
 use pac_state::{file_version, read_file, save_fields, write_block};
 
 /// A state file in bytes.
-const FILE_SIZE: usize = 67_756;
+pub(crate) const FILE_SIZE: usize = 67_756;
 
 /// Writes the state file of the board that has these fields and a ROM set of this digest into a buffer of its size.
-fn put_file(digest: &[u8; 20], fields: &Fields, text: &mut [u8])
+pub(crate) fn put_file(digest: &[u8; 20], fields: &Fields, text: &mut [u8])
     requires size { length text.old ≡ file_size }
     requires in_range { AreBoardFields fields.now }
     ensures { text.new ≡ sealed_file (body written_version digest.now (state_of fields.now)) }

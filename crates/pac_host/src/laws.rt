@@ -2,6 +2,7 @@
 
 ghost use Rattle.pac_host.specs.Films.{AllFramesAreDone, HostsPlayTheFilm};
 ghost use Rattle.pac_host.specs.HostLaws.{BlocksAreOneBoard, HostTimeCanBeCut, OneStepAtMost, RoomIsBounded, StopsAreMetAgain};
+ghost use Rattle.pac_host.specs.LiveLaws.{LiveCallsAreOfOneBoard};
 ghost use Rattle.pac_host.specs.RoomLaws.{RoomIsEnough};
 
 use pac_board::laws::time_can_be_cut;
@@ -46,4 +47,9 @@ pub fn frames_are_done()
 /// A call for one microsecond makes one step at most.
 pub fn one_step_at_most()
     ensures { OneStepAtMost }
+{}
+
+/// The calls of a live board are the host calls of the one board.
+pub fn live_calls_are_of_one_board()
+    ensures { LiveCallsAreOfOneBoard }
 {}

@@ -7,6 +7,12 @@ ghost use Rattle.pac_board.specs.State.{board_after_reset};
 ghost use Rattle.pac_state.specs.Saved.{file_size};
 ghost use Rattle.pac_host.specs.Codes.{Answers};
 ghost use Rattle.pac_host.specs.Host as host;
+ghost use Rattle.pac_host.specs.Live as live_specs;
+ghost use Rattle.pac_host.specs.LiveFiles as live_files_specs;
+ghost use Rattle.pac_host.specs.LiveLook as live_look_specs;
+ghost use Rattle.pac_host.specs.LiveMemory.{live_size};
+ghost use Rattle.pac_host.specs.LiveStep as live_step_specs;
+ghost use Rattle.pac_host.specs.LiveTime as live_time_specs;
 
 mod block;
 mod calls;
@@ -15,6 +21,12 @@ mod draw;
 mod files;
 mod fronts;
 pub mod laws;
+mod live;
+mod live_calls;
+mod live_files;
+mod live_look;
+mod live_step;
+mod live_time;
 mod passed;
 mod peek;
 mod pixels;
@@ -26,6 +38,8 @@ mod time;
 pub use block::PacBoard;
 pub use codes::HostFault;
 use codes::code;
+pub use live::PacLive;
+pub use live_look::PacRegisters;
 use pac_board::{Flags, Inputs};
 pub use ran::{PacRan, RanBytes};
 
@@ -123,4 +137,142 @@ pub extern "C" fn pac_peek(board: &PacBoard, roms: &[u8], address: u16, bytes: &
     ensures { Answers (λ answer. host.Peeks roms.now board.now.bytes address bytes.old answer bytes.new) result }
 {
     code(peek::peek(board, roms, address, bytes))
+}
+
+/// The bytes of memory that a live board takes.
+#[unsafe(no_mangle)]
+pub extern "C" fn pac_live_size() -> usize
+    ensures { result ≡ live_size }
+{
+    live_calls::size()
+}
+
+/// Opens a handle: its memory becomes the board at power-on, with these ROMs and the byte of the DIP switches. A board that lay there before
+/// is gone.
+/// `WrongLength`: `roms` hasn't 25,120 bytes, or `live->size` is less than `pac_live_size()`.
+#[unsafe(no_mangle)]
+pub extern "C" fn pac_live_open(live: &mut PacLive, roms: &[u8], switches: u8) -> u32
+    ensures { Answers (λ answer. live_specs.Opens roms.now switches answer live.old live.new) result }
+{
+    code(live_calls::open(live, roms, switches))
+}
+
+/// Closes a handle: its memory is the host's, which may open it again. `Closed`.
+#[unsafe(no_mangle)]
+pub extern "C" fn pac_live_close(live: &mut PacLive) -> u32
+    ensures { Answers (λ answer. live_specs.Closes answer live.old live.new) result }
+{
+    code(live_calls::close(live))
+}
+
+/// Becomes the board of a block and ROMs. `Closed`.
+/// `WrongLength`: `roms` hasn't 25,120 bytes. `NoBoard`.
+#[unsafe(no_mangle)]
+pub extern "C" fn pac_live_put(live: &mut PacLive, roms: &[u8], board: &PacBoard) -> u32
+    ensures { Answers (λ answer. live_specs.Lives (Unit {0}) (live_specs.Putting roms.now board.now.bytes) answer live.old live.new) result }
+{
+    code(live_calls::put(live, roms, board))
+}
+
+/// Writes the board's block, whatever `board` was before: a snapshot, which any call of a block and `pac_live_put` take. `Closed`.
+#[unsafe(no_mangle)]
+pub extern "C" fn pac_live_give(live: &mut PacLive, board: &mut PacBoard) -> u32
+    ensures { Answers (λ answer. live_specs.Lives (board.new.bytes ≡ board.old.bytes) (live_specs.Giving board.new.bytes)
+        answer live.old live.new) result }
+{
+    code(live_calls::give(live, board))
+}
+
+/// What the watchdog does: as `pac_reset`. `Closed`.
+#[unsafe(no_mangle)]
+pub extern "C" fn pac_live_reset(live: &mut PacLive) -> u32
+    ensures { Answers (λ answer. live_specs.Lives (Unit {0}) (live_specs.Becoming board_after_reset) answer live.old live.new) result }
+{
+    code(live_calls::reset(live))
+}
+
+/// Lets the inputs of `clear` go, and then holds those of `set`: as `pac_hold`. `Closed`.
+#[unsafe(no_mangle)]
+pub extern "C" fn pac_live_hold(live: &mut PacLive, set: u16, clear: u16) -> u32
+    ensures { Answers (λ answer. live_specs.Lives (Unit {0}) (live_specs.Becoming (host.board_holding set clear))
+        answer live.old live.new) result }
+{
+    let set = Inputs::from_bits_retain(set);
+    let clear = Inputs::from_bits_retain(clear);
+    code(live_calls::hold(live, set, clear))
+}
+
+/// Lets so many microseconds go by: as `pac_exec`. `Closed`. `TooLong`. `NoRoom`, as there.
+#[unsafe(no_mangle)]
+pub extern "C" fn pac_live_exec(
+    live: &mut PacLive,
+    microseconds: u32,
+    samples: &mut [i16],
+    ran: &mut RanBytes,
+) -> u32
+    ensures { Answers (λ answer. live_specs.Lives ((samples.new ≡ samples.old) × (ran.new.bytes ≡ ran.old.bytes))
+        (live_time_specs.Executing microseconds samples.old samples.new ran.old.bytes ran.new.bytes)
+        answer live.old live.new) result }
+{
+    code(live_time::exec(live, microseconds, samples, ran))
+}
+
+/// Does exactly one step: an instruction, one round of a repeating one, a halted step or an interrupt's acceptance. Its samples go to the head
+/// of `samples`, and what was done to `ran`. Where the board stops, no step is done, and `ran.stop` tells why. What was asked in all stays, so
+/// `pac_live_exec` goes on from there to the time that it would have gone to. `Closed`. `TooLong`.
+/// `NoRoom`: room for 2 samples is always enough.
+#[unsafe(no_mangle)]
+pub extern "C" fn pac_live_step(live: &mut PacLive, samples: &mut [i16], ran: &mut RanBytes) -> u32
+    ensures { Answers (λ answer. live_specs.Lives ((samples.new ≡ samples.old) × (ran.new.bytes ≡ ran.old.bytes))
+        (live_step_specs.Stepping samples.old samples.new ran.old.bytes ran.new.bytes) answer live.old live.new) result }
+{
+    code(live_step::step(live, samples, ran))
+}
+
+/// Writes what the processor would read at as many addresses as `bytes` has room for, the first of which is `address`: as `pac_peek`.
+/// `Closed`.
+#[unsafe(no_mangle)]
+pub extern "C" fn pac_live_peek(live: &mut PacLive, address: u16, bytes: &mut [u8]) -> u32
+    ensures { Answers (λ answer. live_specs.Lives (bytes.new ≡ bytes.old) (live_look_specs.Peeking address bytes.old bytes.new)
+        answer live.old live.new) result }
+{
+    code(live_look::peek(live, address, bytes))
+}
+
+/// Tells the registers. `Closed`.
+#[unsafe(no_mangle)]
+pub extern "C" fn pac_live_registers(live: &mut PacLive, registers: &mut PacRegisters) -> u32
+    ensures { Answers (λ answer. live_specs.Lives (registers.new ≡ registers.old) (live_look_specs.Telling registers.new)
+        answer live.old live.new) result }
+{
+    code(live_look::tell(live, registers))
+}
+
+/// Draws the picture as it stands: as `pac_draw`. `Closed`.
+/// `WrongLength`: `rgba` hasn't 258,048 bytes.
+#[unsafe(no_mangle)]
+pub extern "C" fn pac_live_draw(live: &mut PacLive, rgba: &mut [u8]) -> u32
+    ensures { Answers (λ answer. live_specs.Lives (rgba.new ≡ rgba.old) (live_look_specs.Drawing rgba.old rgba.new)
+        answer live.old live.new) result }
+{
+    code(live_look::draw(live, rgba))
+}
+
+/// Writes the board's state file, with the digest of its ROM set in it: as `pac_save`. `Closed`.
+/// `WrongLength`: `text` hasn't 67,756 bytes.
+#[unsafe(no_mangle)]
+pub extern "C" fn pac_live_save(live: &mut PacLive, text: &mut [u8]) -> u32
+    ensures { Answers (λ answer. live_specs.Lives (text.new ≡ text.old) (live_files_specs.Saving text.old text.new)
+        answer live.old live.new) result }
+{
+    code(live_files::save(live, text))
+}
+
+/// Takes the state of a state file of the board's ROMs, of any length: as `pac_load`. `Closed`.
+/// `NoFile`: the file is refused, docs/FORMATS.md says why; a wrong length is V3.
+#[unsafe(no_mangle)]
+pub extern "C" fn pac_live_load(live: &mut PacLive, text: &[u8]) -> u32
+    ensures { Answers (λ answer. live_specs.Lives (Unit {0}) (live_files_specs.Loading text.now) answer live.old live.new) result }
+{
+    code(live_files::load(live, text))
 }

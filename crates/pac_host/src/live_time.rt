@@ -1,0 +1,75 @@
+//! Time and single steps of a live board.
+
+ghost use Rattle.std.specs.Prelude.{◌≡◌};
+ghost use Rattle.pac_host.specs.Handed.{StopsEarly};
+ghost use Rattle.pac_host.specs.Host as host;
+ghost use Rattle.pac_host.specs.Live as live_specs;
+ghost use Rattle.pac_host.specs.LiveTime as live_time;
+
+use crate::block::{PacBoard, keep_run, open as open_block};
+use crate::codes::HostFault;
+use crate::live::PacLive;
+use crate::live_calls::check_open;
+use crate::ran::{RanBytes, bytes_of};
+use crate::time::{check, run};
+use pac_board::{Board, Stop};
+
+/// Where a stop was met, forgets of what was asked of the board all but what meets the stop again. (By a block, for what was asked of a board
+/// only grows.)
+#[inline(never)]
+fn forget_missed(board: &mut Board, stop: &Option<Stop>)
+    requires { StopsEarly stop.now board.old.state }
+    ensures { board.new ≡ record board.old { state = host.state_left stop.now board.old.state } }
+{
+    let mut block = PacBoard { bytes: [0; 67_756] };
+    keep_run(board, stop, &mut block);
+    match open_block(&block) {
+        Ok(fields) => board.put_fields(&fields),
+        // never, since it is the block of a board
+        Err(_) => {}
+    }
+}
+
+/// The same, quickly where there was no stop.
+fn keep_stop(board: &mut Board, stop: &Option<Stop>)
+    requires { StopsEarly stop.now board.old.state }
+    ensures { board.new ≡ record board.old { state = host.state_left stop.now board.old.state } }
+{
+    match stop {
+        Some(_) => forget_missed(board, stop),
+        None => {}
+    }
+}
+
+/// Lets so many microseconds go by on a board.
+fn exec_board(
+    board: &mut Board,
+    microseconds: u32,
+    samples: &mut [i16],
+    ran: &mut RanBytes,
+) -> Result<(), HostFault>
+    ensures { live_time.Executing microseconds samples.old samples.new ran.old.bytes ran.new.bytes
+        result board.old board.new }
+{
+    let fields = board.fields();
+    check(&fields, microseconds, samples.len())?;
+    let (told, stop) = run(board, microseconds, samples);
+    ran.bytes = bytes_of(&told);
+    keep_stop(board, &stop);
+    Ok(())
+}
+
+/// Lets so many microseconds go by on a live board.
+pub(crate) fn exec(
+    live: &mut PacLive,
+    microseconds: u32,
+    samples: &mut [i16],
+    ran: &mut RanBytes,
+) -> Result<(), HostFault>
+    ensures { live_specs.Lives ((samples.new ≡ samples.old) × (ran.new.bytes ≡ ran.old.bytes))
+        (live_time.Executing microseconds samples.old samples.new ran.old.bytes ran.new.bytes)
+        result live.old live.new }
+{
+    check_open(live)?;
+    exec_board(live.board(), microseconds, samples, ran)
+}
