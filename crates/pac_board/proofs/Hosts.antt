@@ -27,10 +27,11 @@ use Rattle.pac_board.specs.declared.fault.Fault.TheVariants.{TooFar, Refused}
 use Rattle.pac_board.specs.declared.fault.Idle.{Idle}
 use Rattle.pac_board.specs.SinksLaws.{Giving}
 use Rattle.pac_board.specs.State.{BoardValue, BoardState, due_outputs, nothing_due, time_of}
-use Rattle.pac_board.specs.CallsLaws.{Executes, StepsOnce, Offers, Advances, IsOfferRefused, IsStepRefused, next_of}
+use Rattle.pac_board.specs.CallsLaws.{Executes, StepsOnce, Offers, Advances, IsOfferRefused, IsStepRefused}
+use Rattle.pac_board.specs.Calls.{next_of}
 use Rattle.pac_board.specs.Calls.{outputs_given}
-use Rattle.pac_board.specs.CallsLaws.{outputs_in, board_after_step}
-use Rattle.pac_board.specs.CallsLaws.{with_due}
+use Rattle.pac_board.specs.Calls.{outputs_in, board_after_step}
+use Rattle.pac_board.specs.Calls.{with_due}
 use Rattle.pac_board.specs.Hosts.{Call, Exec, StepOnce, Advance, Offer, GoTo, GoOn, CountAsked, Reset, InputSet, InputClear, Snapshot}
 use Rattle.pac_board.specs.Hosts.{Restore, PutFields, PutRoms, HostedBoard}
 use Rattle.pac_board.specs.Hosts.{run_took, refused_took, step_took, offer_took, way_took, road_took, IsCall, acts_of, stays_within, steps_between}

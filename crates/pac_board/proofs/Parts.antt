@@ -11,7 +11,7 @@ use Rattle.pac_board_model.proofs.Walks.{going-steps, open-goes-on, goes-on, joi
 use Rattle.pac_machine.specs.declared.due.Due.{Due}
 use Rattle.pac_board.specs.SinksLaws.{Giving}
 use Rattle.pac_board.specs.State.{BoardValue, due_outputs, due_with, shows_of, nothing_due, time_of, steps_counted}
-use Rattle.pac_board.specs.CallsLaws.{next_of, outputs_in, board_after_step, with_due}
+use Rattle.pac_board.specs.Calls.{next_of, outputs_in, board_after_step, with_due}
 use Rattle.pac_board.specs.Calls.{course, board_after_run}
 use Rattle.pac_board.specs.Laws.{HasTime, IsOnTheWay, StepsArePartsOfRuns}
 use Rattle.pac_board.proofs.Pieces.{two-parts}

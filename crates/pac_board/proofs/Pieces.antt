@@ -12,7 +12,8 @@ use Rattle.pac_machine.specs.declared.due.Due.{Due}
 use Rattle.pac_board.specs.SinksLaws.{Giving}
 use Rattle.pac_board.specs.State.{BoardValue, due_outputs_in, due_outputs, nothing_due, time_of, steps_counted}
 use Rattle.pac_board.specs.Calls.{next_from_moment, course, outputs_given, board_after_course, board_after_run}
-use Rattle.pac_board.specs.CallsLaws.{with_due, course_at}
+use Rattle.pac_board.specs.Calls.{with_due}
+use Rattle.pac_board.specs.CallsLaws.{course_at}
 use Rattle.pac_board.specs.CallsLaws.{IsRunRefused}
 use Rattle.pac_board.proofs.Walked.{walked-after}
 use Rattle.pac_board.specs.Laws.{IsTakenUp, AreRefused, TimeCanBeCut, RefusalsAreTakenUp, StepsAreDoneAgain}

@@ -15,7 +15,8 @@ use Rattle.pac_board_model.proofs.Walks.{late-has-ended, more-joined, step-timel
 use Rattle.pac_board.specs.SinksLaws.{Giving, by}
 use Rattle.pac_board.specs.Sinks.{TookAll}
 use Rattle.pac_board.specs.State.{BoardValue, nothing_due, due_outputs}
-use Rattle.pac_board.specs.CallsLaws.{next_of, board_after_step, once_at, outputs_in, with_due, IsOfferRefused}
+use Rattle.pac_board.specs.Calls.{next_of, board_after_step, outputs_in, with_due}
+use Rattle.pac_board.specs.CallsLaws.{once_at, IsOfferRefused}
 use Rattle.pac_board.specs.Calls.{next_from_moment}
 use Rattle.pac_board.specs.Turns.{way_at, board_after_walk, HasGone, IsWayRefused}
 use Rattle.pac_machine.specs.Bursts.{stretch_end}

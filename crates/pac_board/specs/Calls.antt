@@ -5,10 +5,13 @@ use Rattle.pac_board_model.specs.Output.{Output}
 use Rattle.pac_board_model.specs.Step.{step}
 use Rattle.pac_board_model.specs.Trace.{by_view}
 use Rattle.pac_board_model.specs.Walk.{Walk, walk_to}
-pub use Rattle.pac_machine.specs.StandingLaws.{next_from_moment}
+pub use Rattle.pac_machine.specs.Standing.{next_from_moment}
 pub use Rattle.pac_machine.specs.StandingProofs.{now_after}
 use Rattle.pac_board.specs.State.{BoardValue, due_outputs, nothing_due}
 use Rattle.pac_board.specs.State.{time_of, steps_counted}
+use Rattle.pac_board_model.specs.Step.{Next, Goes, Ends}
+use Rattle.std.specs.Prelude.{[]}
+use Rattle.pac_machine.specs.declared.due.Due.{Due}
 
 -- ---- one step
 
@@ -42,3 +45,22 @@ board_after_run board microseconds = board_after_course board microseconds (cour
 -- the T-states that a call for so many microseconds takes
 abbrev pub run_ticks : BoardValue → ℕ → ℕ
 run_ticks board microseconds = (board_after_run board microseconds).state.now.time - board.state.now.time
+
+-- what the next step of a board comes to
+abbrev pub next_of : BoardValue → Next BoardView
+next_of board = next_from_moment board.set board.state.now
+
+abbrev pub outputs_in : Next BoardView → List Output
+outputs_in (Goes now outputs kind) = outputs
+outputs_in (Ends stop) = []
+
+-- the board after a step, with what is due then; a stop changes nothing
+abbrev pub board_after_step : Next BoardView → BoardValue → Due → BoardValue
+board_after_step (Goes now outputs kind) board due =
+    record { set = board.set; state = record { now = now; asked = board.state.asked; due = due }; made = steps_counted board.made 1 }
+board_after_step (Ends stop) board due = board
+
+-- the board with something else due
+abbrev pub with_due : BoardValue → Due → BoardValue
+with_due board due =
+    record { set = board.set; state = record { now = board.state.now; asked = board.state.asked; due = due }; made = board.made }

@@ -1,13 +1,11 @@
 -- Law: what is proved of the definitions of Calls.antt.
-use Rattle.pac_board.specs.State.{BoardValue, steps_counted, due_outputs, nothing_due, latest, time_of, most_asked}
+use Rattle.pac_board.specs.State.{BoardValue, due_outputs, nothing_due, latest, time_of, most_asked}
 use Rattle.pac_board_model.specs.Step.{Next, Goes, Ends, step}
 use Rattle.pac_board_model.specs.BoardView.{BoardView}
-use Rattle.pac_machine.specs.StandingLaws.{next_from_moment}
-use Rattle.std.specs.Prelude.{List, [], ℕ, ◌-◌, ◌≡◌, Result, Ok, Err, ◌<◌, ◌≢◌, ◌≤◌, ◌++◌, ◌⊎◌, ◌+◌, suc}
+use Rattle.std.specs.Prelude.{[], ℕ, ◌-◌, ◌≡◌, Result, Ok, Err, ◌<◌, ◌≢◌, ◌≤◌, ◌++◌, ◌⊎◌, ◌+◌, suc}
 use Rattle.pac_board_model.specs.Output.{Output}
 use Rattle.pac_cpu.specs.declared.once.Once.{Once}
 use Rattle.pac_cpu.specs.declared.once.Once.TheVariants.{Stepped, Stopped}
-use Rattle.pac_machine.specs.declared.due.Due.{Due}
 use Rattle.pac_board.specs.SinksLaws.{Giving, Cut}
 use Rattle.pac_board.specs.Sinks.{TookAll}
 use Rattle.pac_board.specs.declared.fault.Idle.{Idle}
@@ -19,14 +17,7 @@ use Rattle.pac_board_model.specs.Walk.{Walk, walk}
 use Rattle.pac_board_model.specs.Trace.{by_view}
 use Rattle.pac_board.specs.declared.exec.Ran.{Ran}
 use Rattle.pac_board.specs.Calls.{board_after_run, outputs_given, course, board_after_course}
-
--- what the next step of a board comes to
-abbrev pub next_of : BoardValue → Next BoardView
-next_of board = next_from_moment board.set board.state.now
-
-abbrev pub outputs_in : Next BoardView → List Output
-outputs_in (Goes now outputs kind) = outputs
-outputs_in (Ends stop) = []
+use Rattle.pac_board.specs.Calls.{next_of, with_due, board_after_step, outputs_in}
 
 -- the answer to whoever asked for the step, at this time
 abbrev pub once_at : Next BoardView → ℕ → Once
@@ -35,17 +26,6 @@ once_at (Ends stop) time = Stopped stop
 
 abbrev pub once_of_board : BoardValue → Once
 once_of_board board = once_at (next_of board) board.state.now.time
-
--- the board after a step, with what is due then; a stop changes nothing
-abbrev pub board_after_step : Next BoardView → BoardValue → Due → BoardValue
-board_after_step (Goes now outputs kind) board due =
-    record { set = board.set; state = record { now = now; asked = board.state.asked; due = due }; made = steps_counted board.made 1 }
-board_after_step (Ends stop) board due = board
-
--- the board with something else due
-abbrev pub with_due : BoardValue → Due → BoardValue
-with_due board due =
-    record { set = board.set; state = record { now = board.state.now; asked = board.state.asked; due = due }; made = board.made }
 
 -- a board offered what was due, and part of it was refused, which is due still
 pub record IsOfferRefused {S : Type 0} (to : Giving S) (old : BoardValue) (sink : S) (new : BoardValue) (later : S) : Type 0 where

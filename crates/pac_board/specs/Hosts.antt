@@ -30,7 +30,8 @@ use Rattle.pac_board.specs.StateLaws.{restored_board}
 use Rattle.pac_board.specs.StateLaws.{with_more_asked}
 use Rattle.pac_board.specs.Roads.{GoesOn}
 use Rattle.pac_board.specs.Turns.{GoesTo, way}
-use Rattle.pac_board.specs.CallsLaws.{Executes, StepsOnce, Offers, Advances, IsOfferRefused, IsStepRefused, next_of, outputs_in}
+use Rattle.pac_board.specs.CallsLaws.{Executes, StepsOnce, Offers, Advances, IsOfferRefused, IsStepRefused}
+use Rattle.pac_board.specs.Calls.{next_of, outputs_in}
 use Rattle.pac_board.specs.Calls.{outputs_given}
 
 -- the calls that change a board, but for `recompose`, which is for a state that was saved without its lines

@@ -6,7 +6,7 @@ use Rattle.pac_board.specs.SinksLaws.{Giving}
 use Rattle.pac_board.specs.State.{BoardValue, due_outputs, nothing_due, time_of}
 use Rattle.pac_board.specs.StateLaws.{restored_board}
 use Rattle.pac_board.specs.Calls.{course, outputs_given, board_after_run}
-use Rattle.pac_board.specs.CallsLaws.{next_of, outputs_in, with_due}
+use Rattle.pac_board.specs.Calls.{next_of, outputs_in, with_due}
 use Rattle.pac_board.specs.CallsLaws.{IsAdvanced, IsOneStep, IsStepRefused, IsOfferRefused, IsRunRefused}
 use Rattle.pac_board.specs.Calls.{run_ticks}
 

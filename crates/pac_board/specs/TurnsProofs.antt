@@ -5,7 +5,8 @@ use Rattle.pac_board_model.specs.Step.{Moment}
 use Rattle.pac_machine.specs.declared.due.Due.{Due}
 use Rattle.pac_board.specs.State.{BoardValue, nothing_due, due_outputs, steps_counted}
 use Rattle.pac_cpu.specs.declared.once.Once.{Once}
-use Rattle.pac_board.specs.CallsLaws.{board_after_step, next_of, once_of_board, outputs_in}
+use Rattle.pac_board.specs.Calls.{board_after_step, next_of, outputs_in}
+use Rattle.pac_board.specs.CallsLaws.{once_of_board}
 use Rattle.pac_board.specs.Sinks.{TookAll}
 use Rattle.std.specs.Prelude.{◌≡◌, ◌-◌, Result, Ok, Err}
 use Rattle.pac_board.specs.SinksLaws.{Giving, Cut}

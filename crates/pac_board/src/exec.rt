@@ -3,7 +3,8 @@
 ghost use Rattle.std.specs.Prelude.{◌≡◌, ◌<◌, ◌≤◌, ◌+◌, ◌^◌, [], None, is_some, take};
 ghost use Rattle.pac_machine.specs.Standing.{latest, nothing_due};
 ghost use Rattle.pac_board.specs.State.{due_outputs};
-ghost use Rattle.pac_board.specs.CallsLaws.{with_due, Offers, IsAdvanced, Advances, StepsOnce, Executes};
+ghost use Rattle.pac_board.specs.Calls.{with_due};
+ghost use Rattle.pac_board.specs.CallsLaws.{Offers, IsAdvanced, Advances, StepsOnce, Executes};
 ghost use Rattle.pac_board.specs.SinksLaws.{by};
 ghost use Rattle.pac_board.specs.TurnsProofs.{Turns};
 ghost use Rattle.pac_board.specs.Turns.{GoesTo};

@@ -4,7 +4,7 @@ use Rattle.std.proofs.Common.{refl, sym, ap, subst, ◌∙◌, arith}
 use mathlib.Core.List.{IsPrefix}
 use Rattle.pac_board.specs.Stop.{Stop}
 use Rattle.pac_board.specs.BoardView.{BoardView}
-use Rattle.pac_board.specs.CallsLaws.{with_due}
+use Rattle.pac_board.specs.Calls.{with_due}
 use Rattle.pac_board.specs.Step.{Moment, step}
 use Rattle.pac_board.specs.Trace.{by_view}
 use Rattle.pac_board.specs.Walk.{Walk, walk}

@@ -7,7 +7,7 @@ use mathlib.Core.List.{IsPrefix}
 use Rattle.pac_board.specs.Stop.{Stop}
 use Rattle.pac_board.specs.BoardView.{BoardView}
 use Rattle.pac_board.specs.Calls.{now_after}
-use Rattle.pac_board.specs.CallsLaws.{with_due}
+use Rattle.pac_board.specs.Calls.{with_due}
 use Rattle.pac_board.specs.ModelLaws.{IsTimely}
 use Rattle.pac_board.specs.Step.{Moment, Next, Goes, Ends, step, frame_ticks}
 use Rattle.pac_board.specs.Trace.{by_view, next_with_inputs, moment_with_inputs}

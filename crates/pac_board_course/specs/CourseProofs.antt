@@ -3,7 +3,7 @@ use Rattle.pac_board_course.specs.Course.{CourseValue, next_in}
 use Rattle.pac_board.specs.Step.{Next, frame_ticks}
 use Rattle.pac_board.specs.BoardView.{BoardView}
 use Rattle.pac_board.specs.Due.{Due}
-use Rattle.pac_board.specs.CallsLaws.{with_due}
+use Rattle.pac_board.specs.Calls.{with_due}
 use Rattle.pac_board.specs.State.{BoardValue, latest, frame_microseconds, most_asked}
 use Rattle.std.specs.Prelude.{List, ◌≤◌, ◌+◌, ◌*◌, ◌/◌, ℕ, min, ◌-◌}
 use Rattle.pac_inputs.specs.declared.line.Stretch.{Stretch}

@@ -1,7 +1,7 @@
 -- Believed: one step of a live board, with its outputs.
 use Rattle.std.specs.Prelude.{◌≡◌, ◌<◌, ◌≤◌, ℕ, ℤ, ◌-◌, List, ◌++◌, drop, Option, None, Some, Ok, Err}
 use Rattle.pac_board.specs.BoardView.{BoardView}
-use Rattle.pac_board.specs.CallsLaws.{next_of, outputs_in, board_after_step, with_due}
+use Rattle.pac_board.specs.Calls.{next_of, outputs_in, board_after_step, with_due}
 use Rattle.pac_board.specs.Output.{Output, sound_count, picture_count}
 use Rattle.pac_board.specs.State.{BoardValue, due_outputs, latest, nothing_due}
 use Rattle.pac_board.specs.Step.{Next, Goes, Ends}

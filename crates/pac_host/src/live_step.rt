@@ -1,7 +1,7 @@
 //! Single steps of a live board.
 
 ghost use Rattle.std.specs.Prelude.{◌≡◌, ◌≤◌, ◌<◌, ◌-◌, ◌++◌, drop, length};
-ghost use Rattle.pac_board.specs.CallsLaws.{next_of};
+ghost use Rattle.pac_board.specs.Calls.{next_of};
 ghost use Rattle.pac_board.specs.Output.{sound_count, picture_count};
 ghost use Rattle.pac_board.specs.State.{latest};
 ghost use Rattle.pac_host.specs.Codes.{ran_of};

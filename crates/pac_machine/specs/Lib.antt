@@ -1,6 +1,5 @@
 pub mod Standing
 pub mod StandingProofs
-pub mod StandingLaws
 pub mod Events
 pub mod Bursts
 pub mod BurstsProofs

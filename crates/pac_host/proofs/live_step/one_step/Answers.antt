@@ -1,6 +1,6 @@
 -- The buffer has the step's samples, since there is room for them.
 use Rattle.std.proofs.Common.{◌≡◌, ◌-◌, ◌++◌, drop, ap, ◌∙◌, arith, rules}
-use Rattle.pac_board.specs.CallsLaws.{next_of}
+use Rattle.pac_board.specs.Calls.{next_of}
 use Rattle.pac_board.specs.Output.{sound_count, picture_count}
 use Rattle.pac_host.specs.Codes.{ran_of}
 use Rattle.pac_host.specs.Host.{samples_given}

@@ -1,6 +1,6 @@
 -- A stretch of one step.
 use Rattle.std.proofs.Common.{◌+◌, take, ap, sym, subst, arith}
-use Rattle.pac_board.specs.CallsLaws.{with_due}
+use Rattle.pac_board.specs.Calls.{with_due}
 use Rattle.pac_board.specs.State.{BoardValue}
 use Rattle.pac_board.specs.Stretches.{IsStretched}
 use Rattle.pac_board.proofs.Stretches.{single-goes}

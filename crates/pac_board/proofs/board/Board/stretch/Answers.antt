@@ -4,7 +4,7 @@ use Rattle.std.proofs.lemmas.Result.{err_from_is_err_and}
 use Rattle.pac_cpu.specs.declared.once.Stop.{Stop}
 use Rattle.pac_board_model.specs.Step.{step}
 use Rattle.pac_board_model.specs.Trace.{by_view}
-use Rattle.pac_board.specs.CallsLaws.{with_due}
+use Rattle.pac_board.specs.Calls.{with_due}
 use Rattle.pac_board.specs.State.{BoardValue}
 use Rattle.pac_board.specs.Stretches.{HasBatch}
 use Rattle.pac_machine.proofs.Noted.{noted-at, noted-sooner}
