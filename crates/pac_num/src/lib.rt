@@ -58,11 +58,7 @@ pub fn offset(address: u16, by: u16) -> u16
 pub fn displaced(base: u16, d: i8) -> u16
     ensures { result ≡ number.displaced_address base d }
 {
-    if d >= 0 {
-        offset(base, d as u16)
-    } else {
-        offset(base, 65535 - (-(d + 1)) as u16)
-    }
+    base.wrapping_add(i16::from(d).cast_unsigned())
 }
 
 /// A byte read in two's complement, -128 to 127.
@@ -70,11 +66,7 @@ pub fn displaced(base: u16, d: i8) -> u16
 pub fn signed(byte: u8) -> i8
     ensures { result ≡ number.signed_of_byte byte }
 {
-    if byte < 128 {
-        byte as i8
-    } else {
-        -((255 - byte) as i8) - 1
-    }
+    byte.cast_signed()
 }
 
 /// The byte that stands for a number from -128 to 127 in two's complement.
