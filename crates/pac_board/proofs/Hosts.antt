@@ -36,7 +36,7 @@ use Rattle.pac_board.specs.Hosts.{Call, Exec, StepOnce, Advance, Offer, GoTo, Go
 use Rattle.pac_board.specs.Hosts.{Restore, PutFields, PutRoms, HostedBoard}
 use Rattle.pac_board.specs.Hosts.{run_took, refused_took, step_took, offer_took, way_took, road_took, IsCall, acts_of, stays_within, steps_between}
 use Rattle.pac_board.specs.Hosts.{AreCalls, acts_over, goes_back, given_over, history, CallsAreOfTheHistory, ListsAreCut, RestoresGiveAgain}
-use Rattle.pac_board.specs.Roads.{GoesOn}
+use Rattle.pac_board.specs.Roads.{GoesUntil}
 use Rattle.pac_board.specs.Turns.{GoesTo, way, way_at}
 
 -- ---- acts, one after another
@@ -293,7 +293,7 @@ module _ {S : Type 0} (to : Giving S) where
       (ap (λ due. due ++ (way_at old limit goes.steps).outputs) nothing ∙ goes.cut.parts)
 
   road-acts : {E : Type 0} (old : BoardValue) (limit : ℕ) (stops : Option (List ℕ)) (sink : S) (answer : Result (Option Stop) E)
-      (new : BoardValue) (later : S) → (goes : GoesOn to old limit stops sink answer new later) → due_outputs old ≡ []
+      (new : BoardValue) (later : S) → (goes : GoesUntil to old limit stops sink answer new later) → due_outputs old ≡ []
       → IsActed old (steps_on old.state.now new.state.now) (road_took to old limit stops sink answer new later goes) new
   road-acts {E} old limit stops sink (Ok stop) new later goes nothing =
       way-acts {E = E} old goes.end sink (Ok stop) new later goes.gone nothing

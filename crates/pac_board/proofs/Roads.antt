@@ -15,7 +15,7 @@ use Rattle.pac_machine.specs.declared.trail.PastStep.{PastStep}
 use Rattle.pac_machine.specs.Stops.{is_stop}
 use Rattle.pac_machine.specs.StopsProofs.{PassesBy}
 use Rattle.pac_machine.proofs.Passing.{passes-more}
-use Rattle.pac_board.specs.Roads.{HasGoneOn, GoesOn}
+use Rattle.pac_board.specs.Roads.{HasGoneUntil, GoesUntil}
 use Rattle.pac_board.specs.RoadsProofs.{BoardPasses}
 use Rattle.pac_board.specs.Sinks.{TookAll}
 use Rattle.pac_board.specs.SinksLaws.{Giving}
@@ -74,7 +74,7 @@ module _ {Board : Type 0} (next : Moment Board → Next Board) (limit : ℕ) (ti
 -- one that meets a stop, or has no time left, ends at its limit
 pub gone-to-limit : {S : Type 0} {took : S → Output → S → Type 0} {start : BoardValue} {limit : ℕ} {stops : Option (List ℕ)} {sink : S}
     {stop : Option Stop} {new : BoardValue} {later : S} → HasGone took start limit sink stop new later
-    → HasGoneOn took start limit stops sink stop new later
+    → HasGoneUntil took start limit stops sink stop new later
 gone-to-limit {limit = limit} gone =
     record { end = limit; within = omega arith; some = λ early. early; gone = gone; early = λ less. absurd (omega arith) }
 
@@ -96,10 +96,10 @@ module _ {S : Type 0} {took : S → Output → S → Type 0} {start : BoardValue
 
   -- one that stands where it is to stop ends there
   pub gone-to-stop : (stops : Option (List ℕ)) → start.state.now.time < board.state.now.time
-      → is_stop stops board.state.now.regs.pc ≡ true → HasGoneOn took start limit stops sink None board taker
+      → is_stop stops board.state.now.regs.pc ≡ true → HasGoneUntil took start limit stops sink None board taker
   gone-to-stop stops later stands = here (nat_lt board.state.now.time limit) refl
     where
-      here : (b : Bool) → nat_lt board.state.now.time limit ≡ b → HasGoneOn took start limit stops sink None board taker
+      here : (b : Bool) → nat_lt board.state.now.time limit ≡ b → HasGoneUntil took start limit stops sink None board taker
       here true e =
           let early : board.state.now.time < limit = grind (arith, nat_tests) in
           record {
@@ -113,7 +113,7 @@ module _ {S : Type 0} {took : S → Output → S → Type 0} {start : BoardValue
 
 -- without such addresses it ends at its limit alone
 pub gone-free : {S : Type 0} {took : S → Output → S → Type 0} {start : BoardValue} {limit : ℕ} {sink : S} {stop : Option Stop}
-    {new : BoardValue} {later : S} → HasGoneOn took start limit None sink stop new later → HasGone took start limit sink stop new later
+    {new : BoardValue} {later : S} → HasGoneUntil took start limit None sink stop new later → HasGone took start limit sink stop new later
 gone-free {S} {took} {start} {limit} {sink} {stop} {new} {later} gone = here (nat_lt gone.end limit) refl
   where
     here : (b : Bool) → nat_lt gone.end limit ≡ b → HasGone took start limit sink stop new later
@@ -125,9 +125,9 @@ gone-free {S} {took} {start} {limit} {sink} {stop} {new} {later} gone = here (na
 
 pub goes-free : {S E : Type 0} (to : Giving S) (start : BoardValue) (limit : ℕ) (stops : Option (List ℕ)) (sink : S)
     (answer : Result (Option Stop) E) (new : BoardValue) (later : S) → stops ≡ None
-    → GoesOn to start limit stops sink answer new later → GoesTo to start limit sink answer new later
+    → GoesUntil to start limit stops sink answer new later → GoesTo to start limit sink answer new later
 goes-free to start limit stops sink (Ok stop) new later none gone =
-    gone-free (subst (λ (stops : Option (List ℕ)). HasGoneOn to.took start limit stops sink stop new later) none gone)
+    gone-free (subst (λ (stops : Option (List ℕ)). HasGoneUntil to.took start limit stops sink stop new later) none gone)
 goes-free to start limit stops sink (Err refusal) new later none gone = gone
 
 -- ---- what is passed by

@@ -28,7 +28,7 @@ use Rattle.pac_board.specs.SinksLaws.{Giving}
 use Rattle.pac_board.specs.State.{BoardValue, BoardState, due_outputs, board_after_reset, board_with_inputs}
 use Rattle.pac_board.specs.StateLaws.{restored_board}
 use Rattle.pac_board.specs.StateLaws.{with_more_asked}
-use Rattle.pac_board.specs.Roads.{GoesOn}
+use Rattle.pac_board.specs.Roads.{GoesUntil}
 use Rattle.pac_board.specs.Turns.{GoesTo, way}
 use Rattle.pac_board.specs.CallsLaws.{Executes, StepsOnce, Offers, Advances, IsOfferRefused, IsStepRefused}
 use Rattle.pac_board.specs.Calls.{next_of, outputs_in}
@@ -90,7 +90,7 @@ way_took to old limit sink (Ok stop) new later goes = (way old limit).outputs
 way_took to old limit sink (Err refusal) new later goes = goes.cut.taken
 
 abbrev pub road_took : {S E : Type 0} (to : Giving S) (old : BoardValue) (limit : ℕ) (stops : Option (List ℕ)) (sink : S)
-    (answer : Result (Option Stop) E) (new : BoardValue) (later : S) → GoesOn to old limit stops sink answer new later → List Output
+    (answer : Result (Option Stop) E) (new : BoardValue) (later : S) → GoesUntil to old limit stops sink answer new later → List Output
 road_took to old limit stops sink (Ok stop) new later goes = (way old goes.end).outputs
 road_took to old limit stops sink (Err refusal) new later goes = goes.cut.taken
 
@@ -131,7 +131,7 @@ IsCall to (GoTo limit) old taken new =
     × (due_outputs old.board ≡ []) × (new.kept ≡ old.kept)
 IsCall to (GoOn limit stops) old taken new =
     IsCallAnswered {A = Result (Option Stop) sinks.Refused}
-    (λ sink answer later. GoesOn to old.board limit stops sink answer new.board later)
+    (λ sink answer later. GoesUntil to old.board limit stops sink answer new.board later)
     (λ sink answer later done. road_took to old.board limit stops sink answer new.board later done) taken
     × (due_outputs old.board ≡ []) × (new.kept ≡ old.kept)
 IsCall to (CountAsked microseconds) old taken new =

@@ -14,7 +14,7 @@ pub record IsAtStop (stops : Option (List ℕ)) (time : ℕ) (stop : Option Stop
   pub here : is_stop stops new.state.now.regs.pc ≡ true
 
 -- The walk came to its end: the limit, or an earlier time, at which it is to stop. A walk with any time before it does one step at least.
-pub record HasGoneOn {S : Type 0} (took : S → Output → S → Type 0) (old : BoardValue) (limit : ℕ) (stops : Option (List ℕ)) (sink : S)
+pub record HasGoneUntil {S : Type 0} (took : S → Output → S → Type 0) (old : BoardValue) (limit : ℕ) (stops : Option (List ℕ)) (sink : S)
     (stop : Option Stop) (new : BoardValue) (later : S)
     : Type 0 where
   pub end : ℕ
@@ -23,6 +23,6 @@ pub record HasGoneOn {S : Type 0} (took : S → Output → S → Type 0) (old : 
   pub gone : HasGone took old end sink stop new later
   pub early : end < limit → IsAtStop stops end stop new
 
-abbrev pub GoesOn : {S E : Type 0} → Giving S → BoardValue → ℕ → Option (List ℕ) → S → Result (Option Stop) E → BoardValue → S → Type 0
-GoesOn to old limit stops sink (Ok stop) new later = HasGoneOn to.took old limit stops sink stop new later
-GoesOn to old limit stops sink (Err refusal) new later = IsWayRefused to old limit sink new later
+abbrev pub GoesUntil : {S E : Type 0} → Giving S → BoardValue → ℕ → Option (List ℕ) → S → Result (Option Stop) E → BoardValue → S → Type 0
+GoesUntil to old limit stops sink (Ok stop) new later = HasGoneUntil to.took old limit stops sink stop new later
+GoesUntil to old limit stops sink (Err refusal) new later = IsWayRefused to old limit sink new later

@@ -8,7 +8,7 @@ ghost use Rattle.pac_board.specs.CallsLaws.{Offers, IsAdvanced, Advances, StepsO
 ghost use Rattle.pac_board.specs.SinksLaws.{by};
 ghost use Rattle.pac_board.specs.TurnsProofs.{Turns};
 ghost use Rattle.pac_board.specs.Turns.{GoesTo};
-ghost use Rattle.pac_board.specs.Roads.{GoesOn};
+ghost use Rattle.pac_board.specs.Roads.{GoesUntil};
 ghost use Rattle.pac_board.specs.RoadsProofs.{BoardPasses};
 ghost use Rattle.pac_board.specs.Stretches.{IsStretched, HasBatch, Stretches, IsTold};
 ghost use Rattle.pac_machine.specs.Bursts.{next_sample};
@@ -217,7 +217,7 @@ impl Board {
         requires limit { limit ≤ latest }
         requires nothing { due_outputs self.old ≡ [] }
         requires made { self.old.made < 2 ^ 64 }
-        ensures made { GoesOn (by S.took S.refused) self.old limit stops.now sink.old result self.new sink.new }
+        ensures made { GoesUntil (by S.took S.refused) self.old limit stops.now sink.old result self.new sink.new }
         ensures told { IsTold self.old limit self.new told.old told.new }
         ensures passes { BoardPasses stops.now self.old self.new }
     {
@@ -269,7 +269,7 @@ impl Board {
     ) -> Result<Option<Stop>, Refused>
         requires limit { limit ≤ latest }
         requires nothing { due_outputs self.old ≡ [] }
-        ensures made { GoesOn (by S.took S.refused) self.old limit stops.now sink.old result self.new sink.new }
+        ensures made { GoesUntil (by S.took S.refused) self.old limit stops.now sink.old result self.new sink.new }
         ensures told { IsTold self.old limit self.new told.old told.new }
         ensures passes { BoardPasses stops.now self.old self.new }
     {

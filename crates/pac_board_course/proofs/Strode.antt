@@ -12,7 +12,7 @@ use Rattle.pac_board.specs.ModelLaws.{IsTimely}
 use Rattle.pac_board.specs.Step.{Moment, Next, Goes, Ends, step, frame_ticks}
 use Rattle.pac_board.specs.Trace.{by_view, next_with_inputs, moment_with_inputs}
 use Rattle.pac_board.specs.Trails.{noted_step, stepped, noted, IsNoted}
-use Rattle.pac_board.specs.Roads.{GoesOn}
+use Rattle.pac_board.specs.Roads.{GoesUntil}
 use Rattle.pac_board.specs.Stops.{is_stop}
 use Rattle.pac_board.specs.StopsProofs.{PassesBy}
 use Rattle.pac_board.specs.Turns.{GoesTo, HasGone, IsWayRefused, board_after_walk}
@@ -169,7 +169,7 @@ module _ {S : Type 0} (to : Giving S) (old : CourseValue) (board new : BoardValu
 pub goes-answered : {S E : Type 0} (to : Giving S) (old : CourseValue) (board new : BoardValue) (script : List Stretch) (gone : ℕ)
     (sink later : S) (limit : ℕ) → limit ≤ frame_end old → old.board.state.now.time < end_of old → IsClosed old board new
     → script ≡ old.script → gone ≡ old.gone → (stops : Option (List ℕ)) (result : Result (Option Stop) E)
-    → old.board.state.now.time < limit → GoesOn to old.board limit stops sink result board later
+    → old.board.state.now.time < limit → GoesUntil to old.board limit stops sink result board later
     → PlaysTold to old sink result (record { board = new; script = script; gone = gone }) later
 goes-answered {E = E} to old board new script gone sink later limit within early closed scripts gones stops (Ok stop) soon goes =
     let sooner = goes.within in

@@ -14,7 +14,7 @@ use Rattle.pac_board.specs.declared.fault.Fault.TheVariants.{TooFar, Refused}
 use Rattle.pac_board.specs.SinksLaws.{by}
 use Rattle.pac_board.specs.State.{BoardValue, due_outputs, latest}
 use Rattle.pac_host.specs.Host.{samples_due}
-use Rattle.pac_host.specs.LiveStep.{outputs_of_step, stop_in}
+use Rattle.pac_host.specs.LiveStep.{outputs_of_one, stop_of_next}
 use Rattle.pac_host.specs.LiveSteps.{stop_of_once}
 use Rattle.pac_host.specs.Sounding.{sounding_took, sounding_refused}
 use Rattle.pac_host.specs.declared.sounds.Sounds.{Sounds}
@@ -42,7 +42,7 @@ module _ (board : BoardValue) where
       (open-goes-on (now.time + 1) (walk_at_start now) refl (omega arith)))
       ∙ sym (outputs-walked now after)
 
-  pub few-sounds : sound_count (outputs_of_step board) ≤ 2
+  pub few-sounds : sound_count (outputs_of_one board) ≤ 2
   few-sounds =
       let timed = walks-are-timed (by_view board.set) (now.time + 1) (suc zero) now in
       let samples = timed.samples in
@@ -53,7 +53,7 @@ module _ (board : BoardValue) where
       let one = at-most-one board.state.due.sample in
       omega (arith, samples, last, same, all, due, one)
 
-  pub few-pictures : picture_count (outputs_of_step board) ≤ 2
+  pub few-pictures : picture_count (outputs_of_one board) ≤ 2
   few-pictures =
       let timed = walks-are-timed (by_view board.set) (now.time + 1) (suc zero) now in
       let pictures = timed.pictures in
@@ -76,11 +76,11 @@ step-done {A} Refused board sink new later none no_picture early room refused = 
         let all = sounds-append (due_outputs board) (outputs_in (next_of board)) in
         let few = few-sounds board in
         none-refused (due_outputs board) (due_outputs new) sink later none no_picture (omega (arith, all, few, room)) offer.cut
-    choose (inr step) =
+    choose (inr held) =
         let few = few-sounds board in
-        none-refused (outputs_of_step board) (due_outputs new) sink later none no_picture (omega (arith, few, room)) step.cut
+        none-refused (outputs_of_one board) (due_outputs new) sink later none no_picture (omega (arith, few, room)) held.cut
 
 -- the stop that the answer tells
-pub once-stop : (next : Next BoardView) (time : ℕ) → stop_of_once (once_at next time) ≡ stop_in next
+pub once-stop : (next : Next BoardView) (time : ℕ) → stop_of_once (once_at next time) ≡ stop_of_next next
 once-stop (Goes moment outputs kind) time = refl
 once-stop (Ends stop) time = refl

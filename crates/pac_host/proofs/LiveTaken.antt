@@ -11,7 +11,7 @@ use Rattle.pac_state.specs.SavedLaws.{loaded_board}
 use Rattle.pac_state.specs.SavedProofs.{FindsFields}
 use Rattle.pac_state.proofs.Files.{accepts}
 use Rattle.pac_host.specs.declared.codes.HostFault.TheVariants.{NoFile}
-use Rattle.pac_host.specs.LiveFiles.{HasTaken, Loading}
+use Rattle.pac_host.specs.LiveFiles.{HasTakenFile, Loading}
 
 abbrev board_with : Parts → BoardState → ℕ → BoardValue
 board_with set state made = record { set = set; state = state; made = made }
@@ -30,7 +30,7 @@ upgraded-made version set state made =
 
 pub taken : (old new : BoardValue) (text : List ℕ) (fields : Fields) → ((i : ℕ) → get_or text i 0 < 256)
     → FindsFields old.set text (Ok fields) → new ≡ upgraded_board (version_in text) (board_with old.set (state_of fields) old.made)
-    → HasTaken text old new
+    → HasTakenFile text old new
 taken old new text fields fits found is =
     let set = old.set in
     let read = accepts set text fits (Ok (loaded_board set text)) (record { sound = found.sound; text = found.text; board = refl }) in

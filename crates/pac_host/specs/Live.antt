@@ -48,9 +48,9 @@ abbrev pub OpenFails : (roms : List ℕ) → PacLive → HostFault → Type 0
 OpenFails roms live WrongLength = (length roms ≢ roms_size) ⊎ (live.size < live_size)
 OpenFails roms live fault = ⊥
 
-abbrev pub Opens : (roms : List ℕ) (switches : ℕ) → Result (Unit {0}) HostFault → (old new : PacLive) → Type 0
-Opens roms switches (Ok done) old new = HasOpened roms switches old new
-Opens roms switches (Err fault) old new = OpenFails roms old fault × (new ≡ old)
+abbrev pub OpensLive : (roms : List ℕ) (switches : ℕ) → Result (Unit {0}) HostFault → (old new : PacLive) → Type 0
+OpensLive roms switches (Ok done) old new = HasOpened roms switches old new
+OpensLive roms switches (Err fault) old new = OpenFails roms old fault × (new ≡ old)
 
 -- no board lies there any more, and the memory is lent still
 pub record HasClosed (old new : PacLive) : Type 0 where
@@ -68,15 +68,15 @@ abbrev pub Becoming : (BoardValue → BoardValue) → BoardCall
 Becoming becomes answer old new = (answer ≡ Ok tt) × (new ≡ becomes old)
 
 -- the board of a block and ROMs, which goes on counting its steps
-pub record HasPut (roms block : List ℕ) (old new : BoardValue) : Type 0 where
+pub record HasPutBlock (roms block : List ℕ) (old new : BoardValue) : Type 0 where
   pub roms_are : length roms ≡ roms_size
   pub block_is : IsBlock block
   pub board : new ≡ record { set = set_of_roms roms; state = state_in block; made = old.made }
 
 abbrev pub Putting : (roms block : List ℕ) → BoardCall
-Putting roms block (Ok done) old new = HasPut roms block old new
+Putting roms block (Ok done) old new = HasPutBlock roms block old new
 Putting roms block (Err fault) old new = MissesBoard roms block fault × (new ≡ old)
 
 -- the block of the board, which stays
-abbrev pub Giving : (given : List ℕ) → BoardCall
-Giving given answer old new = (answer ≡ Ok tt) × IsBlockOf old.state given × (new ≡ old)
+abbrev pub GivingBlock : (given : List ℕ) → BoardCall
+GivingBlock given answer old new = (answer ≡ Ok tt) × IsBlockOf old.state given × (new ≡ old)

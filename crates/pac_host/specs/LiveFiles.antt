@@ -16,12 +16,12 @@ Saving text text_after (Err WrongLength) old new = (length text ≢ file_size) �
 Saving text text_after (Err fault) old new = ⊥
 
 -- the board of a state file of its ROMs, which goes on counting its steps
-pub record HasTaken (text : List ℕ) (old new : BoardValue) : Type 0 where
+pub record HasTakenFile (text : List ℕ) (old new : BoardValue) : Type 0 where
   pub file : IsFile old.set text
   pub board : new ≡ record (board_of_file old.set file) { made = old.made }
 
 abbrev pub Loading : (text : List ℕ) → BoardCall
-Loading text (Ok done) old new = HasTaken text old new
+Loading text (Ok done) old new = HasTakenFile text old new
 Loading text (Err (NoFile fault)) old new =
     RefusesFile old.set text fault × (fault ≢ NoMemory) × (IsFile old.set text → ⊥) × (new ≡ old)
 Loading text (Err fault) old new = ⊥

@@ -12,30 +12,30 @@ use Rattle.pac_host.specs.declared.ran.PacRan.{PacRan}
 use Rattle.pac_host.specs.Codes.{ran_of}
 use Rattle.pac_host.specs.Host.{room_of, samples_given}
 use Rattle.pac_host.specs.Live.{BoardCall}
-use Rattle.pac_host.specs.LiveTime.{IsTold}
+use Rattle.pac_host.specs.LiveTime.{IsRanTold}
 
 -- what one step gives: what was due, and its own outputs
-abbrev pub outputs_of_step : BoardValue → List Output
-outputs_of_step board = due_outputs board ++ outputs_in (next_of board)
+abbrev pub outputs_of_one : BoardValue → List Output
+outputs_of_one board = due_outputs board ++ outputs_in (next_of board)
 
 -- the board after one step, with nothing due; a stop is no step
 abbrev pub board_after_one : BoardValue → BoardValue
 board_after_one board = board_after_step (next_of board) (with_due board nothing_due) nothing_due
 
-abbrev pub stop_in : Next BoardView → Option Stop
-stop_in (Goes now outputs kind) = None
-stop_in (Ends stop) = Some stop
+abbrev pub stop_of_next : Next BoardView → Option Stop
+stop_of_next (Goes now outputs kind) = None
+stop_of_next (Ends stop) = Some stop
 
 -- exactly one step was done, or the stop was met; what was asked of the board in all stays
 pub record HasStepped (old : BoardValue) (samples : List ℤ) (new : BoardValue) (samples_after : List ℤ) (ran : PacRan) : Type 0 where
   pub early : old.state.now.time < latest
   pub room : 2 ≤ room_of samples
   pub board : new ≡ board_after_one old
-  pub samples_are : samples_after ≡ samples_given (outputs_of_step old) ++ drop (sound_count (outputs_of_step old)) samples
+  pub samples_are : samples_after ≡ samples_given (outputs_of_one old) ++ drop (sound_count (outputs_of_one old)) samples
   pub ran_is :
       ran
-      ≡ ran_of (new.state.now.time - old.state.now.time) (sound_count (outputs_of_step old)) (picture_count (outputs_of_step old))
-      (stop_in (next_of old))
+      ≡ ran_of (new.state.now.time - old.state.now.time) (sound_count (outputs_of_one old)) (picture_count (outputs_of_one old))
+      (stop_of_next (next_of old))
 
 -- the board's time is over, or there is no room for two samples
 abbrev pub StepFails : BoardValue → (samples : List ℤ) → HostFault → Type 0
@@ -44,6 +44,6 @@ StepFails board samples NoRoom = (board.state.now.time < latest) × (room_of sam
 StepFails board samples fault = ⊥
 
 abbrev pub Stepping : (samples samples_after : List ℤ) (told told_after : List ℕ) → BoardCall
-Stepping samples samples_after told told_after (Ok done) old new = IsTold (HasStepped old samples new samples_after) told_after
+Stepping samples samples_after told told_after (Ok done) old new = IsRanTold (HasStepped old samples new samples_after) told_after
 Stepping samples samples_after told told_after (Err fault) old new =
     StepFails old samples fault × (new ≡ old) × (samples_after ≡ samples) × (told_after ≡ told)

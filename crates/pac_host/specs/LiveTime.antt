@@ -32,13 +32,13 @@ RunFails board microseconds samples NoRoom =
 RunFails board microseconds samples fault = ⊥
 
 -- it is told in 32 bytes
-pub record IsTold (done : PacRan → Type 0) (told : List ℕ) : Type 0 where
+pub record IsRanTold (done : PacRan → Type 0) (told : List ℕ) : Type 0 where
   pub ran : PacRan
   pub ran_is : done ran
   pub told_is : told ≡ ran_bytes ran
 
 abbrev pub Executing : (microseconds : ℕ) (samples samples_after : List ℤ) (told told_after : List ℕ) → BoardCall
 Executing microseconds samples samples_after told told_after (Ok done) old new =
-    IsTold (HasRunOn old microseconds samples new samples_after) told_after
+    IsRanTold (HasRunOn old microseconds samples new samples_after) told_after
 Executing microseconds samples samples_after told told_after (Err fault) old new =
     RunFails old microseconds samples fault × (new ≡ old) × (samples_after ≡ samples) × (told_after ≡ told)

@@ -152,7 +152,7 @@ pub extern "C" fn pac_live_size() -> usize
 /// `WrongLength`: `roms` hasn't 25,120 bytes, or `live->size` is less than `pac_live_size()`.
 #[unsafe(no_mangle)]
 pub extern "C" fn pac_live_open(live: &mut PacLive, roms: &[u8], switches: u8) -> u32
-    ensures { Answers (λ answer. live_specs.Opens roms.now switches answer live.old live.new) result }
+    ensures { Answers (λ answer. live_specs.OpensLive roms.now switches answer live.old live.new) result }
 {
     code(live_calls::open(live, roms, switches))
 }
@@ -177,7 +177,7 @@ pub extern "C" fn pac_live_put(live: &mut PacLive, roms: &[u8], board: &PacBoard
 /// Writes the board's block, whatever `board` was before: a snapshot, which any call of a block and `pac_live_put` take. `Closed`.
 #[unsafe(no_mangle)]
 pub extern "C" fn pac_live_give(live: &mut PacLive, board: &mut PacBoard) -> u32
-    ensures { Answers (λ answer. live_specs.Lives (board.new.bytes ≡ board.old.bytes) (live_specs.Giving board.new.bytes)
+    ensures { Answers (λ answer. live_specs.Lives (board.new.bytes ≡ board.old.bytes) (live_specs.GivingBlock board.new.bytes)
         answer live.old live.new) result }
 {
     code(live_calls::give(live, board))

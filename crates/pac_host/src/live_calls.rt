@@ -61,7 +61,7 @@ fn check_room(live: &mut PacLive, roms: &[u8]) -> Result<(), HostFault>
 
 /// Opens a handle: with the board at power-on, of these ROMs and a byte of the DIP switches.
 pub(crate) fn open(live: &mut PacLive, roms: &[u8], switches: u8) -> Result<(), HostFault>
-    ensures { live_specs.Opens roms.now switches result live.old live.new }
+    ensures { live_specs.OpensLive roms.now switches result live.old live.new }
 {
     check_room(live, roms)?;
     make_closed(live);
@@ -100,7 +100,7 @@ pub(crate) fn put(live: &mut PacLive, roms: &[u8], block: &PacBoard) -> Result<(
 
 /// Writes the block of a board.
 fn give_block(board: &mut Board, block: &mut PacBoard) -> Result<(), HostFault>
-    ensures { live_specs.Giving block.new.bytes result board.old board.new }
+    ensures { live_specs.GivingBlock block.new.bytes result board.old board.new }
 {
     boards_have_states(board);
     write_block(&board.fields(), &mut block.bytes);
@@ -111,7 +111,7 @@ fn give_block(board: &mut Board, block: &mut PacBoard) -> Result<(), HostFault>
 
 /// Gives the block of a live board.
 pub(crate) fn give(live: &mut PacLive, block: &mut PacBoard) -> Result<(), HostFault>
-    ensures { live_specs.Lives (block.new.bytes ≡ block.old.bytes) (live_specs.Giving block.new.bytes)
+    ensures { live_specs.Lives (block.new.bytes ≡ block.old.bytes) (live_specs.GivingBlock block.new.bytes)
         result live.old live.new }
 {
     check_open(live)?;

@@ -32,11 +32,11 @@ fn one_step(board: &mut Board, samples: &mut [i16]) -> PacRan
     requires early { board.old.state.now.time < latest }
     requires room { 2 ≤ length samples.old }
     ensures board { board.new ≡ live_step.board_after_one board.old }
-    ensures samples { samples.new ≡ host.samples_given (live_step.outputs_of_step board.old)
-        ++ drop (sound_count (live_step.outputs_of_step board.old)) samples.old }
+    ensures samples { samples.new ≡ host.samples_given (live_step.outputs_of_one board.old)
+        ++ drop (sound_count (live_step.outputs_of_one board.old)) samples.old }
     ensures ran { result ≡ ran_of (board.new.state.now.time - board.old.state.now.time)
-        (sound_count (live_step.outputs_of_step board.old)) (picture_count (live_step.outputs_of_step board.old))
-        (live_step.stop_in (next_of board.old)) }
+        (sound_count (live_step.outputs_of_one board.old)) (picture_count (live_step.outputs_of_one board.old))
+        (live_step.stop_of_next (next_of board.old)) }
 {
     let begun = board.time();
     let mut sounds = Sounds {

@@ -4,7 +4,7 @@ use Rattle.pac_board.specs.SinksLaws.{by}
 use Rattle.pac_board.specs.Step.{step}
 use Rattle.pac_board.specs.Trace.{by_view}
 use Rattle.pac_board.specs.Trails.{IsNoted}
-use Rattle.pac_board.specs.Roads.{GoesOn}
+use Rattle.pac_board.specs.Roads.{GoesUntil}
 use Rattle.pac_board.specs.State.{board_with_inputs}
 use Rattle.pac_board_course.specs.Course.{CourseValue}
 use Rattle.pac_board_course.specs.Frames.{frame_end}
@@ -24,7 +24,7 @@ returns-then-time-blank g c =
     let closed : IsClosed old board new = inl (ended, held) in
     let made = goes-answered (by g.S.Sink.took g.S.Sink.refused) old board new c.args.script.now c.args.gone c.args.sink.now
     c.go-played.new.sink limit (omega arith) c.requires.early closed refl refl c.args.stops.now c.go-played.result (omega arith)
-    (subst (λ n. GoesOn (by g.S.Sink.took g.S.Sink.refused) old.board n c.args.stops.now c.args.sink.now c.go-played.result board
+    (subst (λ n. GoesUntil (by g.S.Sink.took g.S.Sink.refused) old.board n c.args.stops.now c.args.sink.now c.go-played.result board
     c.go-played.new.sink) limit_is c.go-played.ensures.made) in
     let bare = subst (λ n. IsNoted (step (by_view old.board.set)) n old.board.state.now board.state.now c.args.told.now
     c.go-played.new.told) limit_is c.go-played.ensures.told in
@@ -49,7 +49,7 @@ returns-else-time-blank g c =
     let closed : IsClosed old board board = inr (before, refl) in
     let made = goes-answered (by g.S.Sink.took g.S.Sink.refused) old board board c.args.script.now c.args.gone c.args.sink.now
     c.go-played.new.sink limit (omega arith) c.requires.early closed refl refl c.args.stops.now c.go-played.result (omega arith)
-    (subst (λ n. GoesOn (by g.S.Sink.took g.S.Sink.refused) old.board n c.args.stops.now c.args.sink.now c.go-played.result board
+    (subst (λ n. GoesUntil (by g.S.Sink.took g.S.Sink.refused) old.board n c.args.stops.now c.args.sink.now c.go-played.result board
     c.go-played.new.sink) limit_is c.go-played.ensures.made) in
     let bare = subst (λ n. IsNoted (step (by_view old.board.set)) n old.board.state.now board.state.now c.args.told.now
     c.go-played.new.told) limit_is c.go-played.ensures.told in

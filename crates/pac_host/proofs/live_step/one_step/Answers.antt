@@ -4,7 +4,7 @@ use Rattle.pac_board.specs.Calls.{next_of}
 use Rattle.pac_board.specs.Output.{sound_count, picture_count}
 use Rattle.pac_host.specs.Codes.{ran_of}
 use Rattle.pac_host.specs.Host.{samples_given}
-use Rattle.pac_host.specs.LiveStep.{outputs_of_step}
+use Rattle.pac_host.specs.LiveStep.{outputs_of_one}
 use Rattle.pac_host.specs.LiveSteps.{stop_of_once}
 use Rattle.pac_host.proofs.LiveSteps.{few-sounds, few-pictures, once-stop, step-done}
 use Rattle.pac_host.proofs.Sounding.{are-written}
@@ -12,7 +12,7 @@ use Rattle.pac_host.proofs.live_step.one_step.Goals as goal
 
 pub overflow_cast-sounds : goal.overflow_cast-sounds
 overflow_cast-sounds c =
-    let outputs = outputs_of_step c.args.board.now in
+    let outputs = outputs_of_one c.args.board.now in
     let written = are-written outputs _ c.step_once.new.sink (omega arith) (omega arith) c.in-Ok.ensures.sink_is in
     let count = written.taken in
     let few = few-sounds c.args.board.now in
@@ -20,7 +20,7 @@ overflow_cast-sounds c =
 
 pub returns-in-Ok-clause-samples : goal.returns-in-Ok-clause-samples
 returns-in-Ok-clause-samples c =
-    let outputs = outputs_of_step c.args.board.now in
+    let outputs = outputs_of_one c.args.board.now in
     let written = are-written outputs _ c.step_once.new.sink (omega arith) (omega arith) c.in-Ok.ensures.sink_is in
     let same = written.same in
     let count : c.step_once.new.sink.taken ≡ sound_count outputs = let t = written.taken in omega (arith, t) in
@@ -30,7 +30,7 @@ returns-in-Ok-clause-samples c =
 pub returns-in-Ok-clause-ran : goal.returns-in-Ok-clause-ran
 returns-in-Ok-clause-ran c =
     let old = c.args.board.now in
-    let outputs = outputs_of_step old in
+    let outputs = outputs_of_one old in
     let one = c.in-Ok.ensures in
     let written = are-written outputs _ c.step_once.new.sink (omega arith) (omega arith) one.sink_is in
     let few = few-pictures old in
