@@ -1,12 +1,12 @@
 /* The proved board as a C library: Namco's Pac-Man main board, all of whose state is one block of bytes that the host owns.
  * Made by tools/make/make-header from the declarations of crates/pac_host and from the definitions that their contracts cite.
  *
- * The library keeps nothing between calls, takes no memory but the stack (208 KB at most by pac_exec, 32 KB by each other call), and calls
- * nothing of the host. So a copy of a `pac_board` is a snapshot, which may be kept, compared and run again, and boards in different threads
- * don't touch. docs/HOSTS.md goes through a host of one's own.
+ * The library keeps nothing between calls, takes no memory but the stack (208 KB at most by pac_exec, 80 KB by pac_live_exec, 32 KB by each
+ * other call), and calls nothing of the host. So a copy of a `pac_board` is a snapshot, which may be kept, compared and run again, and boards
+ * in different threads don't touch. docs/HOSTS.md goes through a host of one's own.
  *
- * Each call but pac_size answers a code. 0 is 'done'. At any other code nothing is changed: neither the board nor what the host handed in to
- * be written.
+ * Each call but pac_size and pac_live_size answers a code. 0 is 'done'. At any other code nothing is changed: neither the board nor what the
+ * host handed in to be written.
  *
  * What is trusted, for no library can test it: that pointers aren't null (also of a buffer without a byte) and are those of this header's
  * types, that a length is that of its buffer, and that no two buffers of a call share a byte. The calls whose names end with `_checked` test

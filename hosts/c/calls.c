@@ -8,6 +8,7 @@
 #include "../pacboard.h"
 
 #include <stdio.h>
+#include <stdlib.h>
 #include <string.h>
 
 enum {
@@ -485,6 +486,13 @@ static void try_passed_lines(void)
     memset(&one.board, UNTOUCHED, sizeof one.board);
     row("a file of version 1", pac_load(&one.board, one.roms, one.length, file, sizeof file) == PAC_DONE);
     row("the block of a file of version 1", is_same(&one.board, &wanted));
+    size_t size = (pac_live_size() + 15) / 16 * 16;
+    pac_live live = {aligned_alloc(16, size), size, 0};
+    memset(&one.board, UNTOUCHED, sizeof one.board);
+    row("a live board", live.at != NULL && pac_live_open(&live, one.roms, one.length, PAC_SWITCHES) == PAC_DONE);
+    row("a file of version 1 on it", pac_live_load(&live, file, sizeof file) == PAC_DONE && pac_live_give(&live, &one.board) == PAC_DONE);
+    row("the block of that board", is_same(&one.board, &wanted));
+    free(live.at);
 }
 
 /* The registers of a block are 1, 2, 3 and so on. What pushes them stands at their PC, 1817H. */

@@ -6,16 +6,19 @@
 #include "../pacboard.h"
 
 #include <stdbool.h>
+#include <stdlib.h>
 #include <string.h>
 
 enum {
-    MACHINE_STEP_ROOM = 4,   /* samples, which a step never fills */
-    MACHINE_STEP_CALLS = 64, /* calls of a microsecond, in which a step comes: an instruction has 23 T-states at most */
+    MACHINE_STEP_ROOM = 2, /* samples of a step */
+    MACHINE_ALIGNED = 16,  /* where the memory of a live board begins */
 };
 
+/* The block is the board, between calls; single steps are made on a live board. All zeros is a machine that isn't open. */
 typedef struct machine {
     pac_board board;
     uint8_t roms[PAC_ROMS_SIZE];
+    pac_live live;
 } machine;
 
 /* A number of so many bytes in a board's block. */
@@ -62,40 +65,49 @@ static inline uint32_t machine_run(machine *it, uint32_t microseconds, int16_t *
     return pac_exec(&it->board, it->roms, PAC_ROMS_SIZE, microseconds, samples, capacity, ran);
 }
 
-/* Makes one step, or meets a stop; `ran` has all that came. */
-static inline uint32_t machine_step(machine *it, pac_ran *ran)
+/* Opens a live board of this one, in memory that is taken once. */
+static inline uint32_t machine_lend(machine *it)
 {
-    int16_t samples[MACHINE_STEP_ROOM];
-    uint64_t steps = machine_number(it, PAC_AT_STEPS, 8);
-    pac_ran all = {0};
-    uint32_t code = PAC_DONE;
-    for (int call = 0; call < MACHINE_STEP_CALLS && code == PAC_DONE && machine_number(it, PAC_AT_STEPS, 8) == steps; call++) {
-        pac_ran part = {0};
-        code = machine_run(it, 1, samples, MACHINE_STEP_ROOM, &part);
-        part.ticks += all.ticks, part.samples += all.samples, part.pictures += all.pictures;
-        all = part;
-        if (all.stop != PAC_GOES)
-            break;
-    }
-    *ran = all;
-    return code;
+    size_t size = (pac_live_size() + MACHINE_ALIGNED - 1) / MACHINE_ALIGNED * MACHINE_ALIGNED;
+    if (it->live.at == NULL)
+        it->live.at = aligned_alloc(MACHINE_ALIGNED, size), it->live.size = it->live.at == NULL ? 0 : size;
+    uint32_t code = pac_live_open(&it->live, it->roms, PAC_ROMS_SIZE, 0);
+    return code == PAC_DONE ? pac_live_put(&it->live, it->roms, PAC_ROMS_SIZE, &it->board) : code;
 }
 
-/* Makes so many steps at most, one at least where that isn't 0, and ends where PC is one of the places, a bit each: whether it is, in `met`. */
+/* Has the board be that of the live one, of which all microseconds are asked that went by with its steps: a run goes on from there. */
+static inline uint32_t machine_take(machine *it)
+{
+    int16_t samples[PAC_FRAME_SAMPLES + 2];
+    pac_ran ran;
+    uint32_t code = pac_live_give(&it->live, &it->board);
+    uint64_t now = machine_number(it, PAC_AT_TIME, 8) * 125 / 384, asked = machine_number(it, PAC_AT_ASKED, 8);
+    while (code == PAC_DONE && asked < now) { /* (the board is past them: nothing goes by) */
+        uint32_t more = now - asked < PAC_FRAME_MICROSECONDS ? (uint32_t)(now - asked) : PAC_FRAME_MICROSECONDS;
+        code = pac_live_exec(&it->live, more, samples, PAC_FRAME_SAMPLES + 2, &ran), asked += more;
+    }
+    return code == PAC_DONE ? pac_live_give(&it->live, &it->board) : code;
+}
+
+/* Makes so many steps at most, one at least where that isn't 0, and ends where PC is one of the places, a bit each: whether it is, in
+ * `met`; `ran` has all that came. */
 static inline uint32_t machine_until(machine *it, uint64_t steps, const uint8_t *places, pac_ran *ran, bool *met)
 {
-    uint32_t code = PAC_DONE;
+    int16_t samples[MACHINE_STEP_ROOM];
+    uint32_t code = machine_lend(it);
     pac_ran all = {0};
     for (*met = false; code == PAC_DONE && all.stop == PAC_GOES && !*met && steps > 0; steps--) {
         pac_ran part = {0};
-        code = machine_step(it, &part);
-        uint64_t pc = machine_number(it, PAC_AT_PC, 2);
-        *met = code == PAC_DONE && part.stop == PAC_GOES && (places[pc / 8] >> pc % 8 & 1) != 0;
+        pac_registers now = {0};
+        code = pac_live_step(&it->live, samples, MACHINE_STEP_ROOM, &part);
+        if (code == PAC_DONE)
+            code = pac_live_registers(&it->live, &now);
+        *met = code == PAC_DONE && part.stop == PAC_GOES && (places[now.pc / 8] >> now.pc % 8 & 1) != 0;
         part.ticks += all.ticks, part.samples += all.samples, part.pictures += all.pictures;
         all = part;
     }
     *ran = all;
-    return code;
+    return code == PAC_DONE ? machine_take(it) : code;
 }
 
 /* Draws the picture: 224 rows of 288 pixels, each the bytes red, green, blue and 255. */

@@ -25,6 +25,8 @@ static pac_board board;
 static uint8_t roms[PAC_ROMS_SIZE] = {0x3E, 0x42, 0x32, 0x40, 0x40, 0x76}; /* LD A,42H / LD (4040H),A / HALT */
 static uint8_t rgba[PAC_RGBA_SIZE], text[PAC_STATE_SIZE], old_text[PAC_STATE_SIZE];
 static int16_t samples[PAC_FRAME_SAMPLES + 2];
+static uint8_t none[PAC_ROMS_SIZE]; /* each byte EDH: no instruction */
+static pac_live live;
 static uint32_t code;
 static int passed, failed;
 
@@ -88,6 +90,99 @@ static void *peek(void *unused)
     return unused;
 }
 
+static void *live_open(void *unused)
+{
+    code = pac_live_open(&live, roms, sizeof roms, PAC_SWITCHES);
+    return unused;
+}
+
+static void *live_put(void *unused)
+{
+    code = pac_live_put(&live, roms, sizeof roms, &board);
+    return unused;
+}
+
+static void *live_put_none(void *unused)
+{
+    code = pac_live_put(&live, none, sizeof none, &board);
+    return unused;
+}
+
+static void *live_give(void *unused)
+{
+    code = pac_live_give(&live, &board);
+    return unused;
+}
+
+static void *live_reset(void *unused)
+{
+    code = pac_live_reset(&live);
+    return unused;
+}
+
+static void *live_hold(void *unused)
+{
+    code = pac_live_hold(&live, PAC_START1, 0xFFFF);
+    return unused;
+}
+
+static void *live_exec(void *unused)
+{
+    pac_ran ran;
+    code = pac_live_exec(&live, PAC_FRAME_MICROSECONDS, samples, PAC_FRAME_SAMPLES + 2, &ran);
+    return unused;
+}
+
+static void *live_step(void *unused)
+{
+    pac_ran ran;
+    code = pac_live_step(&live, samples, 2, &ran);
+    return unused;
+}
+
+static void *live_peek(void *unused)
+{
+    code = pac_live_peek(&live, 0x4000, text, 256);
+    return unused;
+}
+
+static void *live_registers(void *unused)
+{
+    pac_registers registers;
+    code = pac_live_registers(&live, &registers);
+    return unused;
+}
+
+static void *live_draw(void *unused)
+{
+    code = pac_live_draw(&live, rgba, sizeof rgba);
+    return unused;
+}
+
+static void *live_save(void *unused)
+{
+    code = pac_live_save(&live, text, sizeof text);
+    return unused;
+}
+
+static void *live_load(void *unused)
+{
+    code = pac_live_load(&live, text, sizeof text);
+    return unused;
+}
+
+static void *live_load_old(void *unused)
+{
+    code = pac_live_load(&live, old_text, sizeof old_text);
+    return unused;
+}
+
+static void *live_close(void *unused)
+{
+    code = pac_live_close(&live);
+    return unused;
+}
+
 /* Lays a state file of version 1, within a frame: its lines are composed when it is taken. */
 static void lay_old(void)
 {
@@ -132,8 +227,18 @@ int main(void)
     } calls[] = {
         {"pac_init", init, 32}, {"pac_hold", hold, 32}, {"pac_exec", exec, 208}, {"pac_draw", draw, 32}, {"pac_peek", peek, 32},
         {"pac_reset", reset, 32}, {"pac_save", save, 32}, {"pac_load", load, 32}, {"pac_load of version 1", load_old, 32},
+        {"pac_live_open", live_open, 32}, {"pac_live_hold", live_hold, 32}, {"pac_live_exec", live_exec, 80}, {"pac_live_step", live_step, 32},
+        {"pac_live_peek", live_peek, 32}, {"pac_live_registers", live_registers, 32}, {"pac_live_draw", live_draw, 32},
+        {"pac_live_save", live_save, 32}, {"pac_live_load", live_load, 32},
+        {"pac_live_load of version 1", live_load_old, 32}, {"pac_live_give", live_give, 32}, {"pac_live_put", live_put, 32},
+        {"pac_live_put of no program", live_put_none, 32}, {"pac_live_reset", live_reset, 32}, {"pac_live_step at a stop", live_step, 32},
+        {"pac_live_exec at a stop", live_exec, 80}, {"pac_live_close", live_close, 32},
     };
     lay_old();
+    memset(none, 0xED, sizeof none);
+    live.size = pac_live_size(), live.at = aligned_alloc(16, (live.size + 15) / 16 * 16);
+    if (live.at == NULL)
+        return 3;
     size_t thread = taken(nothing, 64 * KB);
     for (size_t at = 0; at < sizeof calls / sizeof *calls; at++) {
         code = PAC_NULL;

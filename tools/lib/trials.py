@@ -44,11 +44,12 @@ def library_tools(shared: pathlib.Path, environment: dict[str, str] | None = Non
 
 def c_hosts(room: pathlib.Path, compiler: Words, linked: Words) -> dict[str, Job]:
     """The hosts in C, compiled over one build of the library into a folder."""
-    for name in ("calls", "hostile", "film"):
-        bitcode.run(*compiler, "-std=c11", "-O1", "-g", "-I", HOSTS, HOSTS / f"c/{name}.c", *linked, "-o", room / name)
+    for name in ("calls", "hostile", "live", "film"):
+        bitcode.run(*compiler, "-std=c11", "-O1", "-g", "-pthread", "-I", HOSTS, HOSTS / f"c/{name}.c", *linked, "-o", room / name)
     roms, held = OUT / "starfall.roms", OUT / "starfall.held"
     film: Words = [room / "film", roms, held, room / "frames", room / "wave"]
-    return {"calls": Job([room / "calls"]), "hostile": Job([room / "hostile", roms]), "film": Job(film)}
+    callers = {name: Job([room / name, roms]) for name in ("hostile", "live")}
+    return {"calls": Job([room / "calls"]), **callers, "film": Job(film)}
 
 
 def run(job: Job) -> tuple[int, str]:
