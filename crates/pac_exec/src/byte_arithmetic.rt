@@ -1,10 +1,7 @@
 //! Arithmetic of 8 bits and of the carry (UM0080, "8-Bit Arithmetic Group" and "General-Purpose Arithmetic and CPU Control Groups").
 
-ghost use Rattle.std.specs.Prelude.{◌≡◌};
 ghost use Rattle.pac_table.specs.Instructions.{ticks_of};
-ghost use Rattle.pac_alu.specs.Arithmetic.{increment_of, decrement_of};
 ghost use Rattle.pac_alu.specs.Arithmetic.{decimal_of, complement_of, negation_of, carry_set_of, carry_flipped_of};
-ghost use Rattle.pac_exec.specs.Registers.{register_numbered, with_register};
 ghost use Rattle.pac_exec.specs.ByteArithmetic.{byte_arithmetic_effect, outcome_in_accumulator, outcome_in_place};
 ghost use Rattle.pac_exec.specs.TransitionProofs.{DoesTransition, DoesInRegisters};
 ghost use Rattle.pac_exec.specs.Transition.{registers_alone};
@@ -53,62 +50,6 @@ fn alu<B: Bus>(place: BytePlace, instr: &Instr, regs: &mut Regs, bus: &B) -> u8
     put_in_accumulator(outcome, instr, regs)
 }
 
-/// A byte up by 1, in its place; the flags that this leaves.
-#[inline(always)]
-fn increment_byte(byte: &mut u8, f: u8) -> u8
-    ensures value { byte.new ≡ (increment_of byte.old f).value }
-    ensures flags { result ≡ (increment_of byte.old f).f }
-{
-    let outcome = pac_alu::increment(*byte, f);
-    *byte = outcome.value;
-    outcome.f
-}
-
-/// A byte down by 1, in its place; the flags that this leaves.
-#[inline(always)]
-fn decrement_byte(byte: &mut u8, f: u8) -> u8
-    ensures value { byte.new ≡ (decrement_of byte.old f).value }
-    ensures flags { result ≡ (decrement_of byte.old f).f }
-{
-    let outcome = pac_alu::decrement(*byte, f);
-    *byte = outcome.value;
-    outcome.f
-}
-
-/// Counts the register that a field r names in its place, which is looked for once, and puts the flags into F.
-macro_rules! count_in_place {
-    ($count:ident, $r:ident, $regs:ident) => {
-        let f = $regs.f;
-        $regs.f = match $r {
-            0 => $count(&mut $regs.b, f),
-            1 => $count(&mut $regs.c, f),
-            2 => $count(&mut $regs.d, f),
-            3 => $count(&mut $regs.e, f),
-            4 => $count(&mut $regs.h, f),
-            5 => $count(&mut $regs.l, f),
-            _ => $count(&mut $regs.a, f),
-        };
-    };
-}
-
-/// INC of the register that a field r names.
-#[inline(always)]
-fn increment_register(r: u8, regs: &mut Regs)
-    ensures { let outcome = increment_of (register_numbered regs.old r) regs.old.f in
-        regs.new ≡ record (with_register regs.old r outcome.value) { f = outcome.f } }
-{
-    count_in_place!(increment_byte, r, regs);
-}
-
-/// DEC of the register that a field r names.
-#[inline(always)]
-fn decrement_register(r: u8, regs: &mut Regs)
-    ensures { let outcome = decrement_of (register_numbered regs.old r) regs.old.f in
-        regs.new ≡ record (with_register regs.old r outcome.value) { f = outcome.f } }
-{
-    count_in_place!(decrement_byte, r, regs);
-}
-
 /// INC of a byte.
 #[inline(always)]
 #[tactic(auto, unfolding(crate::specs::ByteArithmetic::byte_arithmetic_effect))]
@@ -116,16 +57,8 @@ fn increment<B: Bus>(place: BytePlace, instr: &Instr, regs: &mut Regs, bus: &mut
     ensures { DoesTransition B.after (byte_arithmetic_effect (ByteArithmetic.Increment place) instr.now regs.old (B.byte_at bus.old))
         bus.old regs.new bus.new result }
 {
-    match place {
-        BytePlace::First => {
-            increment_register(instr.p(), regs);
-            instr.ticks()
-        }
-        _ => {
-            let outcome = pac_alu::increment(get(place, instr, regs, bus), regs.f);
-            put_in_place(outcome, place, instr, regs, bus)
-        }
-    }
+    let outcome = pac_alu::increment(get(place, instr, regs, bus), regs.f);
+    put_in_place(outcome, place, instr, regs, bus)
 }
 
 /// DEC of a byte.
@@ -135,16 +68,8 @@ fn decrement<B: Bus>(place: BytePlace, instr: &Instr, regs: &mut Regs, bus: &mut
     ensures { DoesTransition B.after (byte_arithmetic_effect (ByteArithmetic.Decrement place) instr.now regs.old (B.byte_at bus.old))
         bus.old regs.new bus.new result }
 {
-    match place {
-        BytePlace::First => {
-            decrement_register(instr.p(), regs);
-            instr.ticks()
-        }
-        _ => {
-            let outcome = pac_alu::decrement(get(place, instr, regs, bus), regs.f);
-            put_in_place(outcome, place, instr, regs, bus)
-        }
-    }
+    let outcome = pac_alu::decrement(get(place, instr, regs, bus), regs.f);
+    put_in_place(outcome, place, instr, regs, bus)
 }
 
 /// DAA.
