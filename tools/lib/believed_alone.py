@@ -68,10 +68,10 @@ def import_line(below: Below, item: antt.Import) -> str | None:
         alias = f" as {item.here}" if path.rpartition(".")[2] != item.here else ""
         return f"use {path}{alias}" if path else None
     ref_found = whole.item(module, item.name)
+    alias = f" as {item.here}" if item.here != item.name else ""
     if ref_found is not None and module.part == "TheType":
         path = module_path(ref_found).replace(".declared.", ".contracts.")
-        return f"use {path}.{{{item.name}}}" if ref_found in below.cites else None
-    alias = f" as {item.here}" if item.here != item.name else ""
+        return f"use {path}.{{{item.name}{alias}}}" if ref_found in below.cites else None
     if ref_found is None:
         return None
     if ref_found.kind == house.KIT:
@@ -158,8 +158,10 @@ def type_file(below: Below, source: house.Source) -> str:
     if source.kind == "trait":
         text = bodiless(text).replace("    final fn ", "    fn ")
     head = [f"//! {source.name}."]
-    if model:
+    if model and any(name == "Value" for name, _ in house.clauses_of(model.text())):
         return "\n".join([*head, *modelled(below, source, model)])
+    # (a value that a struct owns beside its fields is a field like any other, for what contracts see of it)
+    text = re.sub(r"ghost (\w+): \{[^}]*\} by \{ (\w+)_row\.coded \}", lambda found: f"{found[1]}: {found[2].title()}", text)
     ghosts = ghost_lines(below, source) if source.kind == "trait" or "ghost " in text else []
     if source.kind != "trait":
         text = re.sub(r"^( *)#\[[^\]]*\]\n", "", text, flags=re.M)
