@@ -21,7 +21,7 @@ import pacboard
 import rows
 
 OUT, EXAMPLES = ROOT / "hosts/out", ROOT / "examples"
-FRAMES, KEPT_AT, AHEAD = 120, 60, 2
+FRAMES, KEPT_AT, AHEAD, CHEATS = 120, 60, 2, 25
 PIXELS = pacboard.WIDTH * pacboard.HEIGHT
 ROTATION, MESSAGE, FORMAT, VARIABLE, VARIABLES, MAPS = 1, 6, 10, 15, 16, 0x10000 | 36  # of RETRO_ENVIRONMENT
 JOYPAD = {  # the buttons by libretro's numbers: what each port's holds
@@ -220,6 +220,16 @@ def try_memory(front: Frontend) -> None:
     ctypes.c_uint8.from_address(data + 5).value ^= 0xFF
     row("a byte that a cheat sets", front.state()[WORK_AT + 5] == kept[WORK_AT + 5] ^ 0xFF)
     row("and back", front.back(kept))
+    board, is_same = pacboard.Board((OUT / "starfall.roms").read_bytes()), True
+    board.block = kept
+    for at in range(CHEATS):
+        block = bytearray(board.block)
+        for start, place in ((0x4000, 82), (0x4400, 1106), (0x4C00, WORK_AT)):
+            ctypes.c_uint8.from_address(front.parts[start][0] + 37 * at).value = block[place + 37 * at] = 7 * at
+        board.block = block
+        is_same = is_same and front.frame(0) == wanted_of(board, 0) and front.state() == board.block
+    row(f"{CHEATS} frames, each with three bytes that a cheat sets", is_same and front.state() != kept)
+    row("and back again", front.back(kept))
 
 
 def try_options(front: Frontend) -> None:
