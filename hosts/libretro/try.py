@@ -9,6 +9,7 @@ status is 0 where M is 0.
 """
 import ctypes
 import pathlib
+import re
 import sys
 import tempfile
 from typing import Any
@@ -293,6 +294,13 @@ def try_stop(front: Frontend, room: pathlib.Path) -> None:
     row("is silent from there on, and told once", sounds == [bytes(4 * pacboard.FRAME_SAMPLES)] * 3 and len(front.told) == 1)
 
 
+def try_information(system: System) -> None:
+    """What RetroArch is told of the core, against what the core says of itself."""
+    found = dict(re.findall(r'^(\w+) = "([^"]*)"$', (ROOT / "hosts/libretro/pacboard_libretro.info").read_text(), re.M))
+    row("its name, version and content", (found["corename"], found["display_version"], found["supported_extensions"]) == (system.name.decode(), system.version.decode(), system.ends.decode()))
+    row("with states, for rewind and run-ahead too", (found["savestate"], found["savestate_features"], found["needs_fullpath"]) == ("true", "deterministic", "true"))
+
+
 def main(words: list[str]) -> int:
     """Tries the core."""
     del words
@@ -302,6 +310,7 @@ def main(words: list[str]) -> int:
     front.core.retro_get_system_info(ctypes.byref(system)), front.core.retro_get_system_av_info(ctypes.byref(shape))
     row("libretro's version 1", front.core.retro_api_version() == 1)
     row("what it is", (system.name, system.ends, system.full) == (b"pacboard", b"roms|toml|asm", True))
+    try_information(system)
     row("288 by 224 pixels", (shape.width, shape.height, shape.most_width, shape.most_height) == (288, 224, 288, 224))
     row("60.6 frames and 96,000 samples a second", abs(shape.fps - 1e6 / 16_500) < 1e-9 and shape.rate == 96_000)
     row("no state before there is content", not front.core.retro_serialize(ctypes.create_string_buffer(pacboard.STATE_SIZE), pacboard.STATE_SIZE))
