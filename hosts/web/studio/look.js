@@ -64,15 +64,15 @@ export function* onTo(run, stops, frames) {
     return false;
 }
 
-// Goes back to the last stop before this moment, at the earliest so many frames back: whether there is one.
+// Goes back to the last stop before this moment, at the earliest so many frames back: whether there is one. The last frame is looked through at
+// first, and then twice as many at a time, up to the stride that begins with a snapshot.
 export function* backTo(run, stops, frames = Infinity) {
     const begun = { frame: run.frame, inside: run.inside };
     const isBefore = ({ frame, inside }) => run.frame < frame || run.frame === frame && run.inside < inside;
-    for (let end = begun; end.frame > begun.frame - frames && (end.frame > 0 || end.inside > 0);) {
-        const first = Math.floor((end.inside > 0 ? end.frame : end.frame - 1) / STRIDE) * STRIDE;
+    for (let end = begun, size = 1; end.frame > begun.frame - frames && (end.frame > 0 || end.inside > 0); size *= 2) {
+        const last = end.inside > 0 ? end.frame : end.frame - 1, from = { frame: Math.max(last - last % STRIDE, last - size + 1), inside: 0 };
         let found = null;
-        run.restore(first);
-        const from = { frame: run.frame, inside: 0 };
+        run.go(from.frame);
         for (let isThere = stops.isMet(run); run.canGo && isBefore(end); isThere = goesTo(run, stops)) {
             if (isThere) found = { frame: run.frame, inside: run.inside };
             yield run.frame;

@@ -11,7 +11,7 @@ import { Session } from './session.js';
 import { Tape, masksOf } from './tape.js';
 import { hex, textOf } from './bytes.js';
 
-const FIRST = 20, FRAMES = 3; // that are looked at step by step
+const FIRST = 58, FRAMES = 3; // that are looked at step by step: a snapshot is among them
 const FAR = 5; // frames
 const COPY = 0x0117, MAIN = 0x53; // the LDIR that gives the sprites' places, and where the processor waits for an interrupt
 const CONDITIONS = [ // at the LDIR, and what has to hold of a moment
@@ -147,8 +147,8 @@ function out(it, calls, row) {
     const { run, roms, assembler } = it, inside = [];
     const isReturn = (_, address) => assembler.disassembled(roms.subarray(address, address + 4), address).text.startsWith('RET');
     const returns = [...Array(0x4000).keys()].filter(isReturn);
-    for (const call of calls) for (let within = call + 1; within < it.returned(call); within += 41) inside.push([within, around(it, call, within)]);
-    row(`out of a routine, from ${inside.length} moments`, inside.length > 20 && inside.every(([within, call]) => {
+    for (const call of calls) for (let within = call + 1; within < it.returned(call); within += 211) inside.push([within, around(it, call, within)]);
+    row(`out of a routine, from ${inside.length} moments`, inside.length > 15 && inside.every(([within, call]) => {
         it.goes(within);
         return end(stepOut(run, returns, FAR)) && it.steps === (it.isCall(call) ? it.returned(call) : it.after(call, it.at(call).pc));
     }));
