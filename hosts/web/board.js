@@ -13,8 +13,7 @@ const SIZES = {
     closed: HANDLE, roms: 25120, bytes: BLOCK, rgba: 4 * WIDTH * HEIGHT, samples: 2 * ROOM, ran: 32, registers: 48, places: ADDRESSES,
 };
 const ALIGNED = 16; // where memory of a live board begins
-const AT_TIME = 58, AT_ASKED = 74; // where a block has them
-const LONG = 500, MOST = 300_000; // T-states from which on time goes by in one call, and those that have room in it
+const WHY = ['', 'time', 'place', 'stop', 'full']; // why `pac_live_until` ended, by its codes
 
 // The inputs, each a bit of a mask.
 export const INPUTS = Object.fromEntries([
@@ -106,21 +105,17 @@ class Memory {
         if (this.trap !== null) throw new Trapped(this.trap);
     }
 
-    // Does what makes calls, and keeps in mind where one ends in a trap.
-    guarded(does) {
+    // Makes a call: passes a code of 0, and throws what another one means.
+    call(name, ...words) {
         this.intact();
+        let code;
         try {
-            return does();
+            code = this.calls[name](...words);
         } catch (error) {
             if (!(error instanceof WebAssembly.RuntimeError || error instanceof RangeError)) throw error;
             this.trap = error; // (a RangeError where the stack is full)
-            return this.intact();
+            this.intact();
         }
-    }
-
-    // Makes a call: passes a code of 0, and throws what another one means.
-    call(name, ...words) {
-        const code = this.guarded(() => this.calls[name](...words));
         if (code !== 0) throw new Refused(code);
     }
 
@@ -269,39 +264,15 @@ export class Board {
     // done, with `why`, one of 'time', 'place', 'stop' and 'full'. The set has 65,536 bytes, one for each address, other than 0 where it's of the
     // set; without one there is none. Where there is time one step is done at least.
     until(ticks, places = null) {
-        const some = number('ticks', ticks, 0xffffffff);
-        if (places !== null && places.length !== ADDRESSES) throw new Refused(1);
-        const ran = places === null && some > LONG ? this.#passed(some) : { ticks: 0n, pictures: 0, stop: 0, samples: [], bytes: [0, 0, 0, 0], vector: 0 };
-        return this.#memory.guarded(() => this.#stepped(some, places, ran));
-    }
-
-    // Lets T-states go by, at most so many, and leaves what was asked in all as it was.
-    #passed(ticks) {
-        const before = this.block, view = new DataView(before.buffer), asked = view.getBigUint64(AT_ASKED, true);
-        const microseconds = (view.getBigUint64(AT_TIME, true) + BigInt(Math.min(ticks, MOST))) * 125n / 384n - asked;
-        const ran = this.run(Number(microseconds > 0n ? microseconds : 0n)), { block } = this;
-        new DataView(block.buffer).setBigUint64(AT_ASKED, asked, true);
-        this.block = block;
-        return ran;
-    }
-
-    // Goes on from what was done by single steps.
-    #stepped(most, places, { ticks, pictures, stop, samples, bytes, vector }) {
-        const { at, view } = this.#memory, { pac_live_step: step, pac_live_registers: look } = this.calls, handle = this.#handle;
-        const ran = Number(at.ran), pc = Number(at.registers) + 16, all = [...samples], told = { bytes, vector };
-        let gone = Number(ticks), why = stop !== 0 ? 'stop' : 'time';
-        while (why === 'time' && gone < most) {
-            const code = step(handle, at.samples, 2n, at.ran) || look(handle, at.registers);
-            if (code !== 0) throw new Refused(code);
-            gone += view.getUint32(ran, true);
-            pictures += view.getUint32(ran + 12, true);
-            stop = view.getUint32(ran + 16, true);
-            if (view.getUint32(ran + 8, true) > 0) all.push(...this.#memory.heard());
-            if (stop !== 0) why = Object.assign(told, this.#memory.told()) && 'stop';
-            else if (places !== null && places[view.getUint16(pc, true)] !== 0) why = 'place';
-            else if (all.length + 2 > ROOM && gone < most) why = 'full';
-        }
-        return { ...told, ticks: BigInt(gone), pictures, why, stop, pc: this.registers.pc, samples: Int16Array.from(all) };
+        const memory = this.#memory, { at, view } = memory, ran = Number(at.ran), some = number('ticks', ticks, 0xffffffff);
+        memory.intact();
+        const set = places === null ? [at.places, 0n] : memory.filled('places', places);
+        this.#call('pac_live_until', some, ...set, at.samples, BigInt(ROOM), at.ran);
+        return {
+            ticks: view.getBigUint64(ran, true), pictures: view.getUint32(ran + 12, true), why: WHY[view.getUint32(ran + 16, true)],
+            stop: view.getUint32(ran + 20, true), pc: view.getUint16(ran + 24, true), bytes: Array.from(memory.bytes(ran + 26, 4)),
+            vector: view.getUint8(ran + 30), samples: memory.heard(),
+        };
     }
 
     // The registers by their names: numbers, but the clocks, which are a BigInt, and the four flip-flops.
