@@ -36,14 +36,14 @@ static void look(void)
     done(pac_live_give(&live, &block), "pac_live_give refuses");
 }
 
-/* Opens the board of the ROM block: at power-on, or, where a state file has a byte, as that has it. Whether it was refused. */
+/* Opens the board of the ROM block: at power-on, or as a state file has it. Whether it was refused. */
 static int open_board(const uint8_t *state, size_t length)
 {
     live.size = (pac_live_size() + ALIGNED - 1) / ALIGNED * ALIGNED;
     live.at = aligned_alloc(ALIGNED, live.size);
     if (live.at == NULL)
         give_up(3, "memory runs out");
-    if (pac_live_open(&live, roms, PAC_ROMS_SIZE, PAC_SWITCHES) != PAC_DONE || (length > 0 && pac_live_load(&live, state, length) != PAC_DONE))
+    if (pac_live_open(&live, roms, PAC_ROMS_SIZE, PAC_SWITCHES) != PAC_DONE || (state != NULL && pac_live_load(&live, state, length) != PAC_DONE))
         return 1;
     look();
     for (int byte = 7; byte >= 0; byte--)

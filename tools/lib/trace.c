@@ -294,7 +294,7 @@ int main(int count, char **words)
     for (int byte = 0; byte < 256; byte++)
         pairs[byte][0] = "0123456789ABCDEF"[byte >> 4], pairs[byte][1] = "0123456789ABCDEF"[byte & 15];
     read_file(words[1], roms, sizeof roms);
-    if (open_board(state, count > 6 ? read_file(words[6], state, sizeof state) : 0))
+    if (open_board(count > 6 ? state : NULL, count > 6 ? read_file(words[6], state, sizeof state) : 0))
         give_up(4, "ROM block or state file is refused");
     uint64_t frames = read_file(words[2], held, sizeof held) / 2;
     uint32_t stop = play(frames, (uint64_t)atol(words[3]), (uint64_t)atol(words[4]), strcmp(words[5], "binary") == 0);
