@@ -11,11 +11,12 @@ use Rattle.pac_debug_text.specs.Peeks.{bytes_from, spaced_byte, row_text, rows_t
 abbrev pub bytes_text : (ℕ → ℕ) → ℕ → ℕ → List ℕ
 bytes_text byte at count = flat_map spaced_byte (bytes_from byte at count)
 
-pub bytes-more : (byte : ℕ → ℕ) (at later left shown : ℕ) → left ≡ suc later → shown ≡ byte at
-    → bytes_text byte at left ≡ spaced_byte shown ++ bytes_text byte (wrapped_address (at + 1)) later
+pub bytes-more : (byte : ℕ → ℕ) (at count done shown : ℕ) → done < count → shown ≡ byte at
+    → bytes_text byte at (count - done) ≡ spaced_byte shown ++ bytes_text byte (wrapped_address (at + 1)) (count - (done + 1))
 unfolding bytes_from
-bytes-more byte at later left shown is seen =
-    ap (bytes_text byte at) is ∙ ap (λ b. spaced_byte b ++ bytes_text byte (wrapped_address (at + 1)) later) (sym seen)
+bytes-more byte at count done shown some seen =
+    let one : count - done ≡ suc (count - (done + 1)) = omega (arith, some) in
+    ap (bytes_text byte at) one ∙ ap (λ b. spaced_byte b ++ bytes_text byte (wrapped_address (at + 1)) (count - (done + 1))) (sym seen)
 
 pub bytes-none : (byte : ℕ → ℕ) (at left : ℕ) → left ≡ 0 → bytes_text byte at left ≡ []
 unfolding bytes_from
@@ -36,12 +37,14 @@ pub rows-none : (byte : ℕ → ℕ) (at left : ℕ) → left ≡ 0 → memory_t
 unfolding rows_text
 rows-none byte at left is = ap (memory_text byte at) is
 
-pub instructions-more : (byte : ℕ → ℕ) (at later left : ℕ) (code : List ℕ) → left ≡ suc later → code ≡ bytes_from byte at 4
-    → instructions_text byte left at ≡ line_text at code ++ instructions_text byte later (wrapped_address (at + size_at code))
+pub instructions-more : (byte : ℕ → ℕ) (at count done : ℕ) (code : List ℕ) → done < count → code ≡ bytes_from byte at 4
+    → instructions_text byte (count - done) at
+    ≡ line_text at code ++ instructions_text byte (count - (done + 1)) (wrapped_address (at + size_at code))
 unfolding instructions_text
-instructions-more byte at later left code is seen =
-    ap (λ n. instructions_text byte n at) is
-    ∙ ap (λ shown. line_text at shown ++ instructions_text byte later (wrapped_address (at + size_at shown))) (sym seen)
+instructions-more byte at count done code some seen =
+    let one : count - done ≡ suc (count - (done + 1)) = omega (arith, some) in
+    ap (λ n. instructions_text byte n at) one
+    ∙ ap (λ shown. line_text at shown ++ instructions_text byte (count - (done + 1)) (wrapped_address (at + size_at shown))) (sym seen)
 
 pub instructions-none : (byte : ℕ → ℕ) (at left : ℕ) → left ≡ 0 → instructions_text byte left at ≡ []
 unfolding instructions_text

@@ -1,6 +1,6 @@
 -- Rows, lines and symbols one after another.
-use Rattle.std.proofs.Common.{◌≡◌, ℕ, suc, ◌+◌, ◌<◌, List, [], ◌∷◌, ◌++◌, length, drop, refl}
-use Rattle.std.proofs.Common.{ap, sym, ◌∙◌, ℤ, Some, slice_get, arith, length-drop}
+use Rattle.std.proofs.lemmas.Grind.{common_steps}
+use Rattle.std.proofs.Common.{◌≡◌, ℕ, ◌+◌, ◌<◌, List, [], ◌∷◌, ◌++◌, length, drop, refl, sym, ℤ, Some, slice_get, arith, rules}
 use Rattle.std.proofs.lemmas.List.{drop_more}
 use Rattle.std.proofs.lemmas.Option.{get_or_from_slice_get, slice_get_within}
 use Rattle.std.specs.List.{flat_map}
@@ -8,21 +8,18 @@ use Rattle.pac_asm_program.specs.Names.{Symbol}
 use Rattle.pac_asm_program.specs.declared.line.Line.{Line}
 use Rattle.pac_num.specs.Columns.{row_bytes, byte_columns}
 use Rattle.pac_num.specs.Hexadecimal.{hex_word}
-use Rattle.pac_listing.specs.Listing.{first_row, item_rows, further_row, further_rows, next_row_address, number_of_rows, all_rows}
+use Rattle.pac_listing.specs.Listing.{first_row, item_rows, further_row, further_rows, next_row_address, all_rows}
 use Rattle.pac_listing.specs.Listing.{line_rows, lines_from, symbol_row}
 
 -- bytes that are left fill one row, and the bytes after it further ones
 pub rows-more : (at : ℕ) (bytes : List ℕ) → 0 < length bytes
     → all_rows at bytes ≡ further_row at bytes ++ all_rows (next_row_address at) (drop row_bytes bytes)
 unfolding further_rows
-rows-more at bytes some =
-    let one : number_of_rows (length bytes) ≡ suc (number_of_rows (length (drop row_bytes bytes))) = rw length-drop (omega arith) in
-    ap (λ rows. further_rows rows at bytes) one
+rows-more at bytes some = search rules
 
 pub rows-none : (at : ℕ) (bytes : List ℕ) → length bytes ≡ 0 → all_rows at bytes ≡ []
 unfolding further_rows
-rows-none at [] none = refl
-rows-none at (byte ∷ bytes) none = absurd (omega (arith, none))
+rows-none at bytes none = search rules
 
 -- a line and its text, and those after them
 pub lines-more : (number : ℕ) (line : Line) (later : List Line) (text : List ℕ) (after : List (List ℕ)) {lines : List Line}
@@ -34,8 +31,7 @@ lines-more number line later text after first shown = λ i. lines_from number (f
 -- no line is left
 pub lines-none : (number : ℕ) (lines : List Line) (texts : List (List ℕ)) → length lines ≡ 0 → lines_from number lines texts ≡ []
 unfolding lines_from
-lines-none number [] texts none = refl
-lines-none number (line ∷ lines) texts none = absurd (omega (arith, none))
+lines-none number lines texts none = grind (arith, common_steps)
 
 -- no text is left
 pub texts-none : (number : ℕ) (lines : List Line) → lines_from number lines [] ≡ []
@@ -47,9 +43,7 @@ texts-none number (line ∷ lines) = refl
 pub item-more : (number at : ℕ) (bytes text address columns rest : List ℕ) → 0 < length bytes → address ≡ hex_word at
     → columns ≡ byte_columns bytes → rest ≡ drop row_bytes bytes
     → first_row number address columns text ++ all_rows (next_row_address at) rest ≡ item_rows number at bytes text
-item-more number at [] text address columns rest some here shown left = absurd (omega (arith, some))
-item-more number at (byte ∷ bytes) text address columns rest some here shown left =
-    λ i. first_row number (here i) (shown i) text ++ all_rows (next_row_address at) (left i)
+item-more number at bytes text address columns rest some here shown left = search rules
 
 -- a symbol's row, and those after it
 pub symbols-more : (symbols : List Symbol) (place : ℕ) (name : List ℕ) (passed : ℤ) {number : ℤ}
@@ -58,7 +52,4 @@ pub symbols-more : (symbols : List Symbol) (place : ℕ) (name : List ℕ) (pass
     → flat_map symbol_row (drop place symbols) ≡ symbol_row (name, passed) ++ flat_map symbol_row (drop (place + 1) symbols)
 symbols-more symbols place name passed {number} there equal =
     let found = get_or_from_slice_get symbols place (name, number) (name, number) (sym there) in
-    let inside = slice_get_within symbols place (name, number) (sym there) in
-    ap (flat_map symbol_row) (drop_more symbols place (name, number) inside)
-    ∙ (λ i. symbol_row (found i) ++ flat_map symbol_row (drop (place + 1) symbols))
-    ∙ (λ i. symbol_row (name, sym equal i) ++ flat_map symbol_row (drop (place + 1) symbols))
+    let inside = slice_get_within symbols place (name, number) (sym there) in grind (arith, drop_more)

@@ -1,10 +1,10 @@
-use Rattle.std.proofs.Common.{List, ℕ, ◌+◌, drop, subst, rules, w32, SFits}
+use Rattle.std.proofs.Common.{rules, w32, SFits}
 use Rattle.std.proofs.lemmas.Int.{to_z-of_z}
 use Rattle.std.specs.Prelude.{codes}
 use Rattle.std.specs.List.{flat_map}
 use Rattle.std.proofs.lemmas.Result.{err_from_is_err_and}
-use Rattle.pac_out.proofs.Gathering.{Leaves, leaves-less, leaves-refused, gathers-within}
-use Rattle.pac_listing.specs.Listing.{symbol_row, symbol_rows}
+use Rattle.pac_out.proofs.Gathering.{leaves-less, leaves-refused, gathers-within}
+use Rattle.pac_listing.specs.Listing.{symbol_row}
 use Rattle.pac_listing.proofs.RowLemmas.{symbols-more}
 use Rattle.pac_listing.proofs.listing.put_symbols.Goals as goal
 
@@ -16,21 +16,14 @@ returns-in_err-put g c =
 
 pub returns-in_err-put_symbol : goal.returns-in_err-put_symbol
 returns-in_err-put_symbol g c =
-    let symbols = c.args.symbols.now in
-    let place = c.loop-place.place in
     let fits : SFits w32 c.in-Some.number = search rules in
-    let first = symbols-more symbols place c.in-Some.name.now _ c.in-Some.ensures (to_z-of_z w32 c.in-Some.number fits) in
-    let left = subst (λ (rest : List ℕ). Leaves g.W.Out.took c.args.pending.now c.args.file.now (symbol_rows symbols) rest
-    c.loop-place.pending c.loop-place.file) first c.loop-place.invariant in
+    let left = rw (symbols-more c.args.symbols.now c.loop-place.place c.in-Some.name.now _ c.in-Some.ensures
+    (to_z-of_z w32 c.in-Some.number fits)) at c.loop-place.invariant in
     let p = err_from_is_err_and c.from_residual-in_err-put_symbol.result c.from_residual-in_err-put_symbol.ensures.1 in
-    rw (p.1, p.2) (leaves-refused _ (flat_map symbol_row (drop (place + 1) symbols)) left c.in_err-put_symbol.ensures)
+    rw (p.1, p.2) (leaves-refused _ _ left c.in_err-put_symbol.ensures)
 
 pub loop-place-preserved : goal.loop-place-preserved
 loop-place-preserved g c =
-    let symbols = c.args.symbols.now in
-    let place = c.loop-place.place in
     let fits : SFits w32 c.in-Some.number = search rules in
-    let first = symbols-more symbols place c.in-Some.name.now _ c.in-Some.ensures (to_z-of_z w32 c.in-Some.number fits) in
-    let left = subst (λ (rest : List ℕ). Leaves g.W.Out.took c.args.pending.now c.args.file.now (symbol_rows symbols) rest
-    c.loop-place.pending c.loop-place.file) first c.loop-place.invariant in
-    leaves-less _ (flat_map symbol_row (drop (place + 1) symbols)) left c.in_ok-put_symbol.ensures
+    leaves-less _ _ (rw (symbols-more c.args.symbols.now c.loop-place.place c.in-Some.name.now _ c.in-Some.ensures
+    (to_z-of_z w32 c.in-Some.number fits)) at c.loop-place.invariant) c.in_ok-put_symbol.ensures
