@@ -22,3 +22,4 @@ pub mod LiveSteps
 pub mod LiveTaken
 pub mod LiveBoards
 pub mod UntilEnds
+pub mod Cuts

@@ -29,7 +29,7 @@ told-ticks : (ticks samples pictures : ℕ) (stop : Option Stop) → (ran_of tic
 told-ticks ticks samples pictures None = refl
 told-ticks ticks samples pictures (Some stop) = refl
 
-told-samples : (ticks samples pictures : ℕ) (stop : Option Stop) → (ran_of ticks samples pictures stop).samples ≡ samples
+pub told-samples : (ticks samples pictures : ℕ) (stop : Option Stop) → (ran_of ticks samples pictures stop).samples ≡ samples
 told-samples ticks samples pictures None = refl
 told-samples ticks samples pictures (Some stop) = refl
 
@@ -46,7 +46,7 @@ told-stop ticks samples pictures None = refl
 told-stop ticks samples pictures (Some stop) = refl
 
 -- the samples stand at the head of the buffer
-head-is : (outputs : List Output) (rest : List ℤ) → take (sound_count outputs) (samples_given outputs ++ rest) ≡ samples_given outputs
+pub head-is : (outputs : List Output) (rest : List ℤ) → take (sound_count outputs) (samples_given outputs ++ rest) ≡ samples_given outputs
 head-is [] rest = refl
 head-is (Sound sample ∷ more) rest = ap (λ samples. sample ∷ samples) (head-is more rest)
 head-is (Show image ∷ more) rest = head-is more rest

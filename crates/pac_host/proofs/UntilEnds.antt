@@ -1,6 +1,6 @@
 -- How a board goes on until something ends it, put together from what its parts say.
 use Rattle.std.proofs.Common.{◌≡◌, ◌≢◌, ◌≤◌, ◌<◌, inl, inr, ℕ, zero, suc, ℤ, ◌+◌, ◌-◌, ◌^◌, nat_le, nat_lt, Bool, true, false, ◌||◌, ◌&&◌, is_some}
-use Rattle.std.proofs.Common.{List, [], ◌∷◌, ◌++◌, length, Option, None, Some, refl, sym, ap, subst, ◌∙◌, append_assoc, arith}
+use Rattle.std.proofs.Common.{List, [], ◌∷◌, ◌++◌, length, Option, None, Some, refl, sym, ap, subst, ◌∙◌, arith}
 use Rattle.std.proofs.lemmas.Bool.Decides.{nat_tests}
 use Rattle.std.proofs.lemmas.List.{append-nil}
 use Rattle.pac_board_model.specs.BoardView.{BoardView}
@@ -25,12 +25,11 @@ use Rattle.pac_board.specs.State.{BoardValue, due_outputs, due_with, nothing_due
 use Rattle.pac_board.specs.Stop.{Stop}
 use Rattle.pac_board.specs.Stops.{is_stop}
 use Rattle.pac_board.specs.Trails.{stepped}
-use Rattle.pac_board.specs.Turns.{IsWayRefused}
 use Rattle.pac_host.specs.declared.live_until.Ended.{Ended}
 use Rattle.pac_host.specs.declared.live_until.Ended.TheVariants.{TimeOver, AtPlace, AtStop, BufferFull}
 use Rattle.pac_host.specs.declared.sounds.Sounds.{Sounds}
 use Rattle.pac_host.specs.declared.live_until.PacUntil.{PacUntil}
-use Rattle.pac_host.specs.LiveUntil.{EndsBy, HasComeTo, HasFilled, IsGoneOn, PassesPlaces, WentBy}
+use Rattle.pac_host.specs.LiveUntil.{EndsBy, HasComeTo, IsGoneOn, PassesPlaces, WentBy}
 use Rattle.pac_host.specs.LiveUntils.{IsGone, WalksOn, WalksBy}
 use Rattle.pac_host.specs.Sounding.{sounding_took, sounding_refused}
 use Rattle.pac_host.proofs.LiveSteps.{at-most-one}

@@ -15,6 +15,7 @@ pub mod LiveLook
 pub mod LiveFiles
 pub mod LiveLaws
 pub mod HostLaws
+pub mod CutLaws
 pub mod RoomLaws
 pub mod Films
 pub mod Sounding

@@ -1,5 +1,6 @@
 //! Laws of a host's calls.
 
+ghost use Rattle.pac_host.specs.CutLaws.{AnyCutsAreOneTime};
 ghost use Rattle.pac_host.specs.Films.{AllFramesAreDone, HostsPlayTheFilm};
 ghost use Rattle.pac_host.specs.HostLaws.{BlocksAreOneBoard, HostTimeCanBeCut, OneStepAtMost, RoomIsBounded, StopsAreMetAgain};
 ghost use Rattle.pac_host.specs.LiveLaws.{LiveCallsAreOfOneBoard};
@@ -48,6 +49,13 @@ pub fn frames_are_done()
 pub fn one_step_at_most()
     ensures { OneStepAtMost }
 {}
+
+/// However time on a live board is cut, by addresses, full buffers, steps and microseconds, it is the time of one call.
+pub fn any_cuts_are_one_time()
+    ensures { AnyCutsAreOneTime }
+{
+    time_can_be_cut();
+}
 
 /// The calls of a live board are the host calls of the one board.
 pub fn live_calls_are_of_one_board()

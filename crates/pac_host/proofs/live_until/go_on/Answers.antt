@@ -1,5 +1,5 @@
 -- What was due is given first.
-use Rattle.std.proofs.Common.{◌≡◌, ◌≢◌, ◌<◌, ◌^◌, false, [], ap, ◌∙◌, sym, arith, rules}
+use Rattle.std.proofs.Common.{◌≡◌, ◌≢◌, ◌<◌, ◌^◌, false, [], ap, ◌∙◌, sym, rules}
 use Rattle.pac_board.specs.Calls.{with_due}
 use Rattle.pac_board.specs.CallsLaws.{IsOfferRefused}
 use Rattle.pac_board.specs.Sinks.{TookAll}

@@ -1,7 +1,6 @@
 -- The buffer has the samples that were given, and they are told.
-use Rattle.std.proofs.Common.{◌≡◌, ◌+◌, ◌-◌, ◌++◌, drop, length, ap, ◌∙◌, arith, rules}
+use Rattle.std.proofs.Common.{◌≡◌, ◌-◌, ◌++◌, drop, ap, ◌∙◌, arith, rules}
 use Rattle.pac_board.specs.Output.{sound_count, picture_count}
-use Rattle.pac_board.specs.State.{BoardValue}
 use Rattle.pac_host.specs.Codes.{ran_of, until_of}
 use Rattle.pac_host.specs.Host.{samples_given}
 use Rattle.pac_host.proofs.Sounding.{are-written}

@@ -1,5 +1,5 @@
 -- The addresses of the set.
-use Rattle.std.proofs.Common.{◌≡◌, ◌==◌, not, ℕ, List, length, take, take_all, slice_index, inr, ap, ◌∙◌, arith}
+use Rattle.std.proofs.Common.{◌≡◌, ◌==◌, not, ℕ, List, length, take_all, slice_index, inr, ap, ◌∙◌, arith}
 use Rattle.pac_host.proofs.live_until.stops_of.Goals as goal
 
 pub returns : goal.returns
