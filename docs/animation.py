@@ -2,9 +2,9 @@
 """Makes an animated GIF of some pictures of a run: docs/animation.py FRAMES.ppm OUT.gif [FIRST COUNT STEP].
 
     ./run-example starfall
-    docs/animation.py examples/out/starfall/frames.ppm docs/starfall.gif 120 100 3
+    docs/animation.py examples/out/starfall/frames.ppm docs/starfall.gif 267 100 3
 
-makes the one of the README: 100 pictures from number 120 on, each third one, which is the board's speed within a hundredth, since a GIF
+makes the one of the README: 100 pictures from number 267 on, each third one, which is the board's speed within a hundredth, since a GIF
 counts hundredths of a second and three frames take 4.95 of them. The board has 16 colours at most, so none is lost. It needs Python's
 standard library alone.
 """

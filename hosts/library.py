@@ -16,7 +16,35 @@ OUT = ROOT / "hosts/out"
 KEPT = OUT / "checked"  # what the kit's checks of each crate keep: the library for C and the module for a page rest on the same proofs
 LINE = re.compile(r"(\w+)( +staticlib)?(?: +[\w=]+)*: *(.*)")
 TOLD = 2  # seconds between two lines about what goes on
-TRUSTING = "--after-ci"  # the word that says that `rt ci` has just proved these very files
+AFTER, BESIDE = "--after-ci", "--beside-ci"  # the words that say that `rt ci` has just proved these very files, or is proving them
+
+
+class Proof:
+    """What is known of the crates below a library: whether `rt ci` proves them; and where it is under way, the file into which it prints."""
+
+    def __init__(self, is_of_ci=False, log=None):
+        self.is_of_ci, self.log = is_of_ci, log
+
+    def wait(self, names):
+        """Waits until `rt ci` has proved these crates, and tells how long; where it is over without, that is the end."""
+        begun = time.monotonic()
+        while self.log:
+            said = self.log.read_text(errors="replace")
+            missing = {*names}.difference(re.findall(r"^rt: (\w+) (?:proved$|is kept: )", said, re.M))
+            if not missing:
+                break
+            if re.search(r"^\d+ passed, \d+ failed", said, re.M):
+                sys.exit(f"rt ci doesn't say that {min(missing)} is proved")
+            print(f"rt ci has {len(missing)} crates to prove yet, {time.monotonic() - begun:.0f} s", file=sys.stderr, flush=True)
+            time.sleep(TOLD)
+
+
+def proof_in(words):
+    """What the words of a command line say of the proof, and the other words."""
+    if BESIDE in words[:-1]:
+        at = words.index(BESIDE)
+        return Proof(True, pathlib.Path(words[at + 1])), words[:at] + words[at + 2 :]
+    return Proof(AFTER in words), [word for word in words if word != AFTER]
 
 
 def crates():
@@ -44,11 +72,11 @@ def lay_file(source, to):
         shutil.copy(source, to)
 
 
-def lay_crate(crate, to):
-    """Copies a crate. Of what was built only its proved library is taken: hundreds of megabytes of files that nobody writes."""
+def lay_crate(crate, to, is_proved=True):
+    """Copies a crate. Of what was built only its proved library is taken, if it may be: hundreds of megabytes of files that nobody writes."""
     built = ROOT / "crates" / crate / "out/rlib"
     shutil.copytree(ROOT / "crates" / crate, to, ignore=shutil.ignore_patterns("out", "wrong-bodies.toml", "must-fail"))
-    if (built / f"{crate}.rlib").is_dir():
+    if is_proved and (built / f"{crate}.rlib").is_dir():
         shutil.copytree(built, to / "out/rlib", copy_function=lay_file)
 
 
@@ -117,10 +145,12 @@ def text_of(file):
 def keep(place, crate, built):
     """Keeps what a check of a crate has left, as one file: `rt ci` refuses a tree in which a .rt file lies where no check reads it."""
     (KEPT / place).mkdir(parents=True, exist_ok=True)
-    with tarfile.open(KEPT / place / f"{crate}.tar", "w") as tar:
-        for part in ("incremental", "rlib"):
-            if (built / part).is_dir():
-                tar.add(built / part, part)
+    with tempfile.TemporaryDirectory(prefix=".kept-", dir=KEPT) as room:  # (another process may be taking what was kept before)
+        with tarfile.open(f"{room}/tar", "w") as tar:
+            for part in ("incremental", "rlib"):
+                if (built / part).is_dir():
+                    tar.add(built / part, part)
+        os.replace(f"{room}/tar", KEPT / place / f"{crate}.tar")
 
 
 def take_kept(place, crate, built):
@@ -132,27 +162,34 @@ def take_kept(place, crate, built):
 
 
 @contextlib.contextmanager
-def laid(table, name, kind, is_after_ci, swapped="", lay=None):
+def laid(table, name, kind, proof, swapped="", lay=None):
     """Lays a crate, as one of this kind, and all below it into another folder, which is there as long as it's needed: its crates.txt says which
     kind it is, and the repository is left as it is. A crate that is swapped is laid by a call, which is handed the kit and a folder and answers
     the libraries that it uses."""
     below = crates_below(table, name)
+    same = {crate for crate in below - {swapped} if swapped not in crates_below(table, crate)}
+    proof.wait(same)
     with tempfile.TemporaryDirectory(prefix="hosts-") as room:
         folder = pathlib.Path(room).resolve()
         for crate in [*below - {swapped}, name]:
-            lay_crate(crate, folder / "crates" / crate)
+            lay_crate(crate, folder / "crates" / crate, crate in same)
         uses = {crate: " ".join(table[crate][1]) for crate in table if crate in below}
         if swapped:
             uses[swapped] = lay(kit(), folder / "crates" / swapped)
         lines = [f"{crate}: {uses[crate]}" for crate in uses]
         (folder / "crates.txt").write_text("\n".join([*lines, f"{f'{name} {kind}'.strip()}: {' '.join(table[name][1])}", ""]))
         shutil.copy(ROOT / "HANDLES", folder / "HANDLES")
-        if is_after_ci:
+        if proof.is_of_ci:
             stamp(folder)
         yield folder
 
 
-def build(name, kind, file, to, is_after_ci, flags=(), swapped="", lay=None, target=""):
+def jobs(proof):
+    """How many processes a check may take: in the gate one, since other work waits there for a processor, and four take two thirds more of it."""
+    return ["--jobs", "1"] if proof.is_of_ci else []
+
+
+def build(name, kind, file, to, proof, flags=(), swapped="", lay=None, target=""):
     """Builds a library as a crate of this kind, in a copy of it and of all below it, and takes the file that it leaves.
 
     The flags are for the compiler. What an earlier build of either kind has checked, and nothing has changed since, isn't checked again. Beside
@@ -163,14 +200,15 @@ def build(name, kind, file, to, is_after_ci, flags=(), swapped="", lay=None, tar
     if not table.get(name, (False, []))[0]:
         sys.exit(f"crates.txt has no static library {name}")
     above = {crate for crate in crates_below(table, name) if swapped in crates_below(table, crate)}
-    with laid(table, name, kind, is_after_ci, swapped, lay) as folder:
+    with laid(table, name, kind, proof, swapped, lay) as folder:
         crates_kept, place = [*above, *([swapped] if swapped else []), name], f"{name}-{swapped}" if swapped else name
         for crate in crates_kept:
             built = folder / "crates" / crate / "out"
             shutil.rmtree(built, ignore_errors=True)  # (what was proved over the crate that was swapped isn't so here)
             take_kept(place, crate, built)
         (OUT / to).parent.mkdir(parents=True, exist_ok=True)
-        run(lay_kit(flags, folder / "kit", (OUT / to).with_suffix(".bc"), target), folder / "crates" / name, "lib", declaring=swapped)
+        rt = lay_kit(flags, folder / "kit", (OUT / to).with_suffix(".bc"), target)
+        run(rt, folder / "crates" / name, "lib", *jobs(proof), declaring=swapped)
         shutil.copy(folder / "crates" / name / "out" / file.format(name), OUT / to)
         for crate in crates_kept:
             keep(place, crate, folder / "crates" / crate / "out")

@@ -18,22 +18,23 @@ import select
 import socket
 import subprocess
 import sys
-from typing import Any
+from collections.abc import Callable
+from typing import Any, NamedTuple
 
 OUT, HERE = pathlib.Path(__file__).resolve().parents[1] / "out", pathlib.Path(__file__).resolve().parent
 NAMES = """P1_UP P1_LEFT P1_RIGHT P1_DOWN RACK_TEST COIN1 COIN2 CREDIT
 P2_UP P2_LEFT P2_RIGHT P2_DOWN BOARD_TEST START1 START2 COCKTAIL""".split()
-BOARD_SIZE, RGBA_SIZE, PC_AT, STEPS_AT, HELD_AT = 67_756, 258_048, 52, 66, 3218  # bytes, and places of a block, by pacboard.h
+BOARD_SIZE, RGBA_SIZE = 67_756, 258_048  # bytes
 REGISTERS = "af bc de hl sp pc ix iy af' bc' de' hl' ir".split()  # of 16 bits, as gdb's z80 has them
 PLACES = (31, 30, 33, 32, 35, 34, 37, 36, 50, 51, 52, 53, 46, 47, 48, 49, 39, 38, 41, 40, 43, 42, 45, 44, 55, 54)  # of their bytes in a block
 RAM = {0x4000: (82, 1024), 0x4400: (1106, 1024), 0x4C00: (2130, 1024)}  # where a block has what memory, and how many bytes
-STRETCH, MOST_KEPT = 1024, 2000  # steps from one kept block to the next at first, and how many are kept
+STRETCH, MOST_KEPT = 50_688, 2000  # T-states from one kept moment to the next at first, a frame's, and how many are kept
 TARGET = '<?xml version="1.0"?><!DOCTYPE target SYSTEM "gdb-target.dtd"><target><architecture>z80</architecture><feature name="org.gnu.gdb.z80.cpu">'
 KINDS = {"sp": "data_ptr", "pc": "code_ptr"}
 TARGET += "".join(f'<reg name="{name}" bitsize="16" type="{KINDS.get(name, "uint16")}"/>' for name in REGISTERS) + "</feature></target>"
 FEATURES = "PacketSize=4000;QStartNoAckMode+;qXfer:features:read+;ReverseStep+;ReverseContinue+;swbreak+;hwbreak+"
 HELP = """hold NAME,..   holds these inputs and no other; `hold -` holds none
-frames N       lets N frames go by
+frames N       goes on to the N-th vertical blank from here
 picture FILE   writes the picture as it is, as a PPM file
 reset          does what the watchdog does
 """
@@ -48,7 +49,9 @@ def library() -> Any:
         words: list[str | pathlib.Path] = ["cc", "-O2", "-shared", "-fPIC", HERE / "machine.c", OUT / "libpac_host.a", OUT / "libpac_source.a", "-o", made]
         subprocess.run(words, check=True)
     found = ctypes.CDLL(str(made))
-    found.gdb_open.restype, found.gdb_until.argtypes = ctypes.c_char_p, (ctypes.c_uint64, ctypes.c_char_p, ctypes.c_void_p)
+    found.gdb_open.restype, found.gdb_time.restype, found.gdb_last.restype = ctypes.c_char_p, ctypes.c_uint64, ctypes.c_int64
+    found.gdb_until.argtypes = (ctypes.c_uint64, ctypes.c_void_p, ctypes.c_void_p)
+    found.gdb_before.argtypes, found.gdb_last.argtypes = (ctypes.c_uint64,), (ctypes.c_uint64, ctypes.c_void_p)
     return found
 
 
@@ -56,16 +59,30 @@ class Refused(Exception):
     """A packet asks what can't be done."""
 
 
+def no_places() -> ctypes.Array[ctypes.c_uint8]:
+    """A set of addresses, a byte each, of which there is none yet."""
+    return (ctypes.c_uint8 * 0x10000)()
+
+
+class Kept(NamedTuple):
+    """A moment to which there is a way back: its time, T-states since power-on, the board's block, and whether gdb has changed the board there."""
+
+    time: int
+    block: bytes
+    is_changed: bool
+
+
 class Board:
-    """The board, where gdb wants it to stop, and the blocks of earlier moments."""
+    """The board, where gdb wants it to stop, and earlier moments."""
 
     def __init__(self, content: str, switches: int) -> None:
         """The board of content at power-on."""
-        self.calls, self.breakpoints = library(), set[int]()
+        self.calls, self.places, self.met = library(), no_places(), ctypes.c_bool()
         wrong = self.calls.gdb_open(content.encode(), switches)
         if wrong:
             raise ValueError(f"{content}: {wrong.decode()}")
-        self.kept = [self.block()]
+        self.kept = list[Kept]()
+        self.keep(is_changed=True)
 
     def block(self) -> bytes:
         """All of the board's state."""
@@ -81,82 +98,72 @@ class Board:
     def change(self, block: bytes) -> None:
         """Goes to a block that gdb has changed: there is no way back from there."""
         self.put(block)
-        self.kept = [block]
+        self.kept.clear()
+        self.keep(is_changed=True)
 
-    def keep(self) -> None:
-        """Keeps the block of this moment in place of one of the same moment, and every second one where there are many."""
-        block = self.block()
-        while self.kept and steps_of(self.kept[-1]) >= steps_of(block):
-            self.kept.pop()
-        self.kept.append(block)
+    def keep(self, is_changed: bool = False) -> None:
+        """Keeps this moment, where it is changed or a frame after the last one; every second one goes where there are many, but for those that the
+        way from an earlier one doesn't lead to."""
+        time = self.calls.gdb_time()
+        if is_changed:
+            self.kept = [one for one in self.kept if one.time < time]
+        elif time < self.kept[-1].time + STRETCH:
+            return
+        self.kept.append(Kept(time, self.block(), is_changed))
         if len(self.kept) > MOST_KEPT:
-            del self.kept[1:-1:2]
+            self.kept = [one for at, one in enumerate(self.kept) if at % 2 == 0 or one.is_changed]
 
-    def until(self, steps: int, places: set[int]) -> tuple[int, bool]:
-        """Makes so many steps at most: why the board stopped, and whether PC is at one of the places."""
-        bits, met = bytearray(8192), ctypes.c_uint8()
-        for place in places:
-            bits[place >> 3] |= 1 << (place & 7)
-        stop = self.calls.gdb_until(steps, bytes(bits), ctypes.byref(met))
-        return stop, bool(met.value)
+    def until(self, time: int) -> str:
+        """Goes on to a time, a breakpoint or a stop."""
+        stop = self.calls.gdb_until(time, self.places, ctypes.byref(self.met))
+        self.keep()
+        return STOPPED if stop else BREAK if self.met else TRAP
 
     def step(self) -> str:
         """Makes one step."""
-        stop, is_met = self.until(1, self.breakpoints)
-        if steps_of(self.block()) >= steps_of(self.kept[-1]) + STRETCH:
-            self.keep()
-        return STOPPED if stop else BREAK if is_met else TRAP
+        return self.until(self.calls.gdb_time() + 1)
 
-    def go(self, is_called: Any) -> str:
+    def go(self, is_called: Callable[[], bool]) -> str:
         """Goes on to a breakpoint, a stop, or where gdb calls."""
-        while True:
-            if self.breakpoints:
-                stop, is_met = self.until(STRETCH, self.breakpoints)
-            else:
-                stop, is_met = self.calls.gdb_frame(), False
-            self.keep()
-            if stop or is_met or is_called():
-                return STOPPED if stop else BREAK if is_met else INTERRUPT
+        while (why := self.until(self.calls.gdb_time() + STRETCH)) == TRAP:
+            if is_called():
+                return INTERRUPT
+        return why
 
-    def back_to(self, steps: int) -> None:
-        """Goes back to the moment with so many steps, from the last block that was kept before it."""
-        while steps_of(self.kept[-1]) > steps:
+    def frames(self, count: int) -> bool:
+        """Goes on to the vertical blank so many frames from here; false where the board stops before."""
+        for _ in range(count):
+            if self.calls.gdb_until((self.calls.gdb_time() // STRETCH + 1) * STRETCH, no_places(), ctypes.byref(self.met)):
+                return False
+            self.keep()
+        return True
+
+    def back_before(self, time: int) -> None:
+        """Goes back to the last kept moment before a time."""
+        while len(self.kept) > 1 and self.kept[-1].time >= time:
             self.kept.pop()
-        self.put(self.kept[-1])
-        self.until(steps - steps_of(self.kept[-1]), set())
+        self.put(self.kept[-1].block)
 
     def step_back(self) -> str:
         """Takes one step back."""
-        steps = steps_of(self.block())
-        if steps == steps_of(self.kept[0]):
+        time = self.calls.gdb_time()
+        if time <= self.kept[0].time:
             return BEGIN
-        self.back_to(steps - 1)
+        self.back_before(time)
+        self.calls.gdb_before(time)
         return TRAP
-
-    def last_met(self, kept: bytes, end: int) -> int:
-        """The steps of the last moment from a kept block on, before the end, at which PC is at a breakpoint; -1 where there is none."""
-        self.put(kept)
-        found = steps_of(kept) if pc_of(kept) in self.breakpoints and steps_of(kept) < end else -1
-        steps = steps_of(kept)
-        while steps < end:
-            stop, is_met = self.until(end - steps, self.breakpoints)
-            steps = steps_of(self.block())
-            if is_met and steps < end:
-                found = steps
-            if stop:
-                break
-        return found
 
     def go_back(self) -> str:
         """Goes back to the last moment at a breakpoint, or to the first that is known."""
-        end = steps_of(self.block())
-        for kept in reversed([block for block in self.kept if steps_of(block) < end]):
-            found = self.last_met(kept, end) if self.breakpoints else -1
+        time = self.calls.gdb_time()
+        while time > self.kept[0].time:
+            self.back_before(time)
+            found = self.calls.gdb_last(time, self.places)
+            self.put(self.kept[-1].block)
             if found >= 0:
-                self.back_to(found)
+                self.calls.gdb_until(found, no_places(), ctypes.byref(self.met))
                 return BREAK
-            end = steps_of(kept)
-        self.back_to(steps_of(self.kept[0]))
+            time = self.kept[-1].time
         return BEGIN
 
     def peek(self, address: int, length: int) -> bytes:
@@ -179,11 +186,9 @@ class Board:
         """Does what `monitor` asks for, and answers its text."""
         if words[:1] == ["hold"] and len(words) == 2 and (words[1] == "-" or set(words[1].split(",")) <= set(NAMES)):
             self.calls.gdb_hold(sum(1 << at for at, name in enumerate(NAMES) if name in words[1].split(",")))
+            self.keep(is_changed=True)
         elif words[:1] == ["frames"] and len(words) == 2 and words[1].isdecimal() and len(words[1]) < 7:
-            for _ in range(int(words[1])):
-                if self.calls.gdb_frame():
-                    return "the board stopped\n"
-                self.keep()
+            return "done\n" if self.frames(int(words[1])) else "the board stopped\n"
         elif words[:1] == ["picture"] and len(words) == 2:
             rgba = ctypes.create_string_buffer(RGBA_SIZE)
             self.calls.gdb_draw(rgba)
@@ -196,20 +201,10 @@ class Board:
                 return f"{error}\n"
         elif words == ["reset"]:
             self.calls.gdb_reset()
+            self.keep(is_changed=True)
         else:
             return HELP
-        self.keep()
         return "done\n"
-
-
-def steps_of(block: bytes) -> int:
-    """How many steps were made."""
-    return int.from_bytes(block[STEPS_AT : STEPS_AT + 8], "little")
-
-
-def pc_of(block: bytes) -> int:
-    """Where the program is."""
-    return int.from_bytes(block[PC_AT : PC_AT + 2], "little")
 
 
 def number(text: str, least: int = 0, most: int = 0xFFFFFFFF) -> int:
@@ -263,7 +258,7 @@ def memory(board: Board, packet: str) -> str:
             raise Refused()
         board.change(with_registers(board.block(), first, content))
     elif words[0] in ("0", "1"):
-        (board.breakpoints.add if kind == "Z" else board.breakpoints.discard)(number(words[1], 0, 0xFFFF))
+        board.places[number(words[1], 0, 0xFFFF)] = kind == "Z"
     else:
         return ""
     return "OK"
@@ -282,7 +277,7 @@ def question(board: Board, packet: str) -> str:
     return {"qAttached": "1", "qC": "QC1", "qfThreadInfo": "m1", "qsThreadInfo": "l"}.get(packet, "")
 
 
-def answer(board: Board, packet: str, is_called: Any) -> str:
+def answer(board: Board, packet: str, is_called: Callable[[], bool]) -> str:
     """The answer to a packet; an empty one to what isn't known, as the protocol wants it."""
     kind = packet[:1]
     try:
@@ -371,7 +366,7 @@ def main() -> int:
                         serve(board, Line(peer))
                     except OSError:
                         pass  # (gdb is gone)
-                board.breakpoints.clear()
+                board.places = no_places()
                 if words.once:
                     return 0
     except (OSError, ValueError, OverflowError, subprocess.CalledProcessError) as error:

@@ -1,13 +1,14 @@
 /* The proved board as a libretro core, for RetroArch and other frontends. hosts/libretro/build makes it.
  *
- * Content is a ROM block, a manifest or a source (hosts/c/content.h). States are the board's blocks, so rewind and run-ahead are the
- * frontend's. Sound has 96,000 samples a second, which the frontend resamples; a picture is XRGB8888. */
+ * Content is a ROM block, a manifest or a source (hosts/c/content.h). The board is live, and after each frame its block is there for the frontend:
+ * as its state, so rewind and run-ahead are the frontend's, and as memory, which cheats may change. Sound has 96,000 samples a second, which the
+ * frontend resamples; a picture is XRGB8888. */
 #include "../c/content.h"
 #include "../c/machine.h"
 
 #include <libretro.h>
 
-enum { BUTTONS = 9, PORTS = 2, SWITCHES = 5, TURN = SWITCHES };
+enum { BUTTONS = 9, PORTS = 2, SWITCHES = 5, TURN = SWITCHES, RAM_SIZE = PAC_TILE_RAM_SIZE + PAC_COLOUR_RAM_SIZE + PAC_WORK_RAM_SIZE };
 
 static const struct button {
     unsigned button;
@@ -35,6 +36,8 @@ static const struct group {
 };
 
 static machine it;
+static pac_board seen;              /* the board, as the frontend sees it */
+static uint8_t ram[RAM_SIZE];       /* its RAM, as the board has it */
 static uint8_t rgba[PAC_RGBA_SIZE];
 static uint32_t picture[PAC_WIDTH * PAC_HEIGHT];
 static bool is_loaded, is_told;
@@ -46,7 +49,7 @@ static retro_input_state_t input;
 
 RETRO_API unsigned retro_api_version(void) { return RETRO_API_VERSION; }
 RETRO_API void retro_init(void) {}
-RETRO_API void retro_deinit(void) {}
+RETRO_API void retro_deinit(void) { machine_close(&it); }
 RETRO_API void retro_set_video_refresh(retro_video_refresh_t call) { show = call; }
 RETRO_API void retro_set_audio_sample(retro_audio_sample_t call) { (void)call; }
 RETRO_API void retro_set_audio_sample_batch(retro_audio_sample_batch_t call) { play = call; }
@@ -104,10 +107,26 @@ static uint8_t switches(void)
     return (uint8_t)found;
 }
 
+_Static_assert(PAC_AT_WORK_RAM + PAC_WORK_RAM_SIZE == PAC_AT_TILE_RAM + RAM_SIZE, "RAM is in one piece of a block");
+
+/* Lets the frontend see the board as it is. */
+static void give(void)
+{
+    if (pac_live_give(&it.live, &seen) == PAC_DONE)
+        memcpy(ram, seen.bytes + PAC_AT_TILE_RAM, RAM_SIZE);
+}
+
+/* Has the board take what cheats changed. */
+static void take(void)
+{
+    if (memcmp(ram, seen.bytes + PAC_AT_TILE_RAM, RAM_SIZE) != 0)
+        machine_put(&it, &seen);
+}
+
 /* Says where the frontend's cheats find the board's memory. */
 static void map_memory(void)
 {
-    uint8_t *bytes = it.board.bytes;
+    uint8_t *bytes = seen.bytes;
     struct retro_memory_descriptor parts[] = {
         {.flags = RETRO_MEMDESC_CONST, .ptr = it.roms, .start = 0, .len = PAC_SOURCE_ROM_SIZE, .addrspace = "ROM"},
         {.ptr = bytes + PAC_AT_TILE_RAM, .start = 0x4000, .len = PAC_TILE_RAM_SIZE, .addrspace = "TILES"},
@@ -131,16 +150,15 @@ RETRO_API bool retro_load_game(const struct retro_game_info *game)
         return tell(wrong), false;
     unsigned turns = (unsigned)strtoul(option(TURN), NULL, 10) & 3;
     environment(RETRO_ENVIRONMENT_SET_ROTATION, &turns);
-    map_memory();
+    give(), map_memory();
     return is_told = false, is_loaded = true;
 }
 
 /* Power-on, with the switches as they are now. */
 RETRO_API void retro_reset(void)
 {
-    static uint8_t roms[PAC_ROMS_SIZE];
-    memcpy(roms, it.roms, sizeof roms);
-    machine_open(&it, roms, switches()), is_told = false;
+    machine_open(&it, it.roms, switches()), is_told = false;
+    give();
 }
 
 /* What is held on both joypads. */
@@ -156,10 +174,10 @@ static uint16_t held(void)
 /* A frame: what is held, its sound in both ears, silence after a stop, and its picture. */
 RETRO_API void retro_run(void)
 {
-    int16_t samples[PAC_FRAME_SAMPLES + 2] = {0}, both[2 * (PAC_FRAME_SAMPLES + 2)];
+    int16_t samples[MACHINE_ROOM] = {0}, both[2 * MACHINE_ROOM];
     pac_ran ran = {0};
-    poll_input();
-    if (machine_hold(&it, held()) != PAC_DONE || machine_run(&it, PAC_FRAME_MICROSECONDS, samples, PAC_FRAME_SAMPLES + 2, &ran) != PAC_DONE)
+    poll_input(), take();
+    if (machine_frame(&it, held(), samples, &ran) != PAC_DONE)
         tell("the board refuses the frame");
     if (ran.stop != PAC_GOES && !is_told)
         is_told = true, tell("the board stopped: its program has run into what is no instruction");
@@ -168,17 +186,17 @@ RETRO_API void retro_run(void)
         both[at] = samples[at / 2];
     for (size_t done = 0, part; done < count && (part = play(both + 2 * done, count - done)) > 0; done += part)
         continue;
-    if (machine_draw(&it, rgba) == PAC_DONE)
+    if (pac_live_draw(&it.live, rgba, PAC_RGBA_SIZE) == PAC_DONE)
         for (size_t at = 0; at < PAC_WIDTH * PAC_HEIGHT; at++)
             picture[at] = (uint32_t)rgba[4 * at] << 16 | (uint32_t)rgba[4 * at + 1] << 8 | rgba[4 * at + 2];
-    show(picture, PAC_WIDTH, PAC_HEIGHT, PAC_WIDTH * sizeof picture[0]);
+    give(), show(picture, PAC_WIDTH, PAC_HEIGHT, PAC_WIDTH * sizeof picture[0]);
 }
 
 RETRO_API bool retro_serialize(void *bytes, size_t size)
 {
     if (size < PAC_BOARD_SIZE || !is_loaded)
         return false;
-    return memcpy(bytes, it.board.bytes, PAC_BOARD_SIZE), true;
+    return memcpy(bytes, seen.bytes, PAC_BOARD_SIZE), true;
 }
 
 RETRO_API bool retro_unserialize(const void *bytes, size_t size)
@@ -187,8 +205,10 @@ RETRO_API bool retro_unserialize(const void *bytes, size_t size)
     if (size < PAC_BOARD_SIZE || !is_loaded)
         return false;
     memcpy(board.bytes, bytes, PAC_BOARD_SIZE);
-    return is_told = false, machine_put(&it, &board) == PAC_DONE;
+    if (machine_put(&it, &board) != PAC_DONE)
+        return false;
+    return is_told = false, give(), true;
 }
 
-RETRO_API void *retro_get_memory_data(unsigned kind) { return kind == RETRO_MEMORY_SYSTEM_RAM ? it.board.bytes + PAC_AT_WORK_RAM : NULL; }
+RETRO_API void *retro_get_memory_data(unsigned kind) { return kind == RETRO_MEMORY_SYSTEM_RAM ? seen.bytes + PAC_AT_WORK_RAM : NULL; }
 RETRO_API size_t retro_get_memory_size(unsigned kind) { return kind == RETRO_MEMORY_SYSTEM_RAM ? PAC_WORK_RAM_SIZE : 0; }

@@ -9,6 +9,7 @@ status is 0 where M is 0.
 """
 import ctypes
 import pathlib
+import re
 import sys
 import tempfile
 from typing import Any
@@ -21,7 +22,7 @@ import pacboard
 import rows
 
 OUT, EXAMPLES = ROOT / "hosts/out", ROOT / "examples"
-FRAMES, KEPT_AT, AHEAD = 120, 60, 2
+FRAMES, KEPT_AT, AHEAD, CHEATS = 120, 60, 2, 25
 PIXELS = pacboard.WIDTH * pacboard.HEIGHT
 ROTATION, MESSAGE, FORMAT, VARIABLE, VARIABLES, MAPS = 1, 6, 10, 15, 16, 0x10000 | 36  # of RETRO_ENVIRONMENT
 JOYPAD = {  # the buttons by libretro's numbers: what each port's holds
@@ -220,6 +221,16 @@ def try_memory(front: Frontend) -> None:
     ctypes.c_uint8.from_address(data + 5).value ^= 0xFF
     row("a byte that a cheat sets", front.state()[WORK_AT + 5] == kept[WORK_AT + 5] ^ 0xFF)
     row("and back", front.back(kept))
+    board, is_same = pacboard.Board((OUT / "starfall.roms").read_bytes()), True
+    board.block = kept
+    for at in range(CHEATS):
+        block = bytearray(board.block)
+        for start, place in ((0x4000, 82), (0x4400, 1106), (0x4C00, WORK_AT)):
+            ctypes.c_uint8.from_address(front.parts[start][0] + 37 * at).value = block[place + 37 * at] = 7 * at
+        board.block = block
+        is_same = is_same and front.frame(0) == wanted_of(board, 0) and front.state() == board.block
+    row(f"{CHEATS} frames, each with three bytes that a cheat sets", is_same and front.state() != kept)
+    row("and back again", front.back(kept))
 
 
 def try_options(front: Frontend) -> None:
@@ -283,6 +294,13 @@ def try_stop(front: Frontend, room: pathlib.Path) -> None:
     row("is silent from there on, and told once", sounds == [bytes(4 * pacboard.FRAME_SAMPLES)] * 3 and len(front.told) == 1)
 
 
+def try_information(system: System) -> None:
+    """What RetroArch is told of the core, against what the core says of itself."""
+    found = dict(re.findall(r'^(\w+) = "([^"]*)"$', (ROOT / "hosts/libretro/pacboard_libretro.info").read_text(), re.M))
+    row("its name, version and content", (found["corename"], found["display_version"], found["supported_extensions"]) == (system.name.decode(), system.version.decode(), system.ends.decode()))
+    row("with states, for rewind and run-ahead too", (found["savestate"], found["savestate_features"], found["needs_fullpath"]) == ("true", "deterministic", "true"))
+
+
 def main(words: list[str]) -> int:
     """Tries the core."""
     del words
@@ -292,6 +310,7 @@ def main(words: list[str]) -> int:
     front.core.retro_get_system_info(ctypes.byref(system)), front.core.retro_get_system_av_info(ctypes.byref(shape))
     row("libretro's version 1", front.core.retro_api_version() == 1)
     row("what it is", (system.name, system.ends, system.full) == (b"pacboard", b"roms|toml|asm", True))
+    try_information(system)
     row("288 by 224 pixels", (shape.width, shape.height, shape.most_width, shape.most_height) == (288, 224, 288, 224))
     row("60.6 frames and 96,000 samples a second", abs(shape.fps - 1e6 / 16_500) < 1e-9 and shape.rate == 96_000)
     row("no state before there is content", not front.core.retro_serialize(ctypes.create_string_buffer(pacboard.STATE_SIZE), pacboard.STATE_SIZE))

@@ -41,7 +41,7 @@ def main(words: list[str]) -> int:
         print((__doc__ or "").strip())
         return 0 if "--help" in words else 2
     with open(words[0], "rb") as file:
-        board = pacboard.Board(file.read())
+        board = pacboard.LiveBoard(file.read())
     with open(words[1], "rb") as file:
         held = pacboard.held_of(file.read())
     ran = pacboard.Ran()

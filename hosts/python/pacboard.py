@@ -1,11 +1,16 @@
 """The proved board in Python: the calls of hosts/pacboard.h over ctypes.
 
-    board = Board(roms)                          # at power-on; roms are the 25,120 bytes that hosts/roms.py makes
+    board = LiveBoard(roms)                      # at power-on; roms are the 25,120 bytes that hosts/roms.py makes
     board.hold(INPUTS["P1_LEFT"])                # this and nothing else is held
     ran, samples = board.run(FRAME_MICROSECONDS) # an array of 16 bit samples
     rgba = board.draw()                          # 288 by 224 pixels, four bytes each
     kept = board.block                           # all of its state, 67,756 bytes; board.block = kept goes back
-    ram = board.view("work_ram")                 # what is there now, and after each later call: nothing is copied
+    board.step()                                 # one instruction
+    pc = board.registers().pc
+    board.close()                                # gives its memory back, as the end of `with LiveBoard(roms) as board` does
+
+A `Board` has the same calls but the last three, and is nothing but its block: each call reads and writes all of that, which takes longer, and
+`board.view("work_ram")` is what is there after each call.
 
 The library is the shared object that $PAC_HOST names, else the one beside this file, where `pip install hosts/python` lays it, else that of an
 unpacked release. In the repository it is made of hosts/out/libpac_host.a, which hosts/build leaves, by the C compiler `cc`, the first time
@@ -50,6 +55,7 @@ SONAME = "libpac_host.so.0"
 BOARD_SIZE, ROMS_SIZE, STATE_SIZE, RGBA_SIZE = 67_756, 25_120, 67_756, 258_048  # bytes
 WIDTH, HEIGHT = 288, 224  # pixels
 FRAME_MICROSECONDS, FRAME_SAMPLES, SAMPLE_RATE, SWITCHES = 16_500, 1_584, 96_000, 0xC9
+STEP_SAMPLES, ALIGNED, CLOSED = 2, 16, 5  # room for a step, what the address of a live board's memory is divided by, and the code of a closed one
 NAMES = """P1_UP P1_LEFT P1_RIGHT P1_DOWN RACK_TEST COIN1 COIN2 CREDIT
 P2_UP P2_LEFT P2_RIGHT P2_DOWN BOARD_TEST START1 START2 COCKTAIL""".split()
 INPUTS = {name: 1 << bit for bit, name in enumerate(NAMES)}
@@ -73,6 +79,14 @@ class Refused(Exception):
         self.code = code
 
 
+class Closed(Refused):
+    """A live board was closed."""
+
+    def __init__(self) -> None:
+        super().__init__(CLOSED)
+        self.args = ("the board is closed",)
+
+
 class Ran(ctypes.Structure):
     """What a run did, as pac_ran of the header."""
 
@@ -87,6 +101,53 @@ class Ran(ctypes.Structure):
         ("ticks", ctypes.c_uint64), ("samples", ctypes.c_uint32), ("pictures", ctypes.c_uint32), ("stop", ctypes.c_uint32),
         ("pc", ctypes.c_uint16), ("bytes", ctypes.c_uint8 * 4), ("vector", ctypes.c_uint8), ("zero", ctypes.c_uint8),
     ]  # fmt: skip
+
+
+class Registers(ctypes.Structure):
+    """The registers of a board, as pac_registers of the header."""
+
+    time: int
+    steps: int
+    pc: int
+    sp: int
+    ix: int
+    iy: int
+    a: int
+    f: int
+    b: int
+    c: int
+    d: int
+    e: int
+    h: int
+    l: int
+    alternate_a: int
+    alternate_f: int
+    alternate_b: int
+    alternate_c: int
+    alternate_d: int
+    alternate_e: int
+    alternate_h: int
+    alternate_l: int
+    i: int
+    r: int
+    interrupt_mode: int
+    iff1: bool
+    iff2: bool
+    halted: bool
+    after_ei: bool
+    _fields_ = [(name, ctypes.c_uint64) for name in ("time", "steps")] + [(name, ctypes.c_uint16) for name in ("pc", "sp", "ix", "iy")] + [
+        (name, ctypes.c_uint8) for name in (*"afbcdehl", *(f"alternate_{name}" for name in "afbcdehl"), "i", "r", "interrupt_mode")
+    ] + [(name, ctypes.c_bool) for name in ("iff1", "iff2", "halted", "after_ei")] + [("zero", ctypes.c_uint8)]  # fmt: skip
+
+
+class Handle(ctypes.Structure):
+    """The handle of a live board, as pac_live of the header."""
+
+    at: int
+    size: int
+    seal: int
+    memory: object
+    _fields_ = [("at", ctypes.c_void_p), ("size", ctypes.c_size_t), ("seal", ctypes.c_uint64)]
 
 
 def shared_object() -> str:
@@ -125,6 +186,20 @@ def library() -> ctypes.CDLL:
         "pac_save": (written, text, size, written, size),
         "pac_load": (written, text, size, text, size),
         "pac_peek": (written, text, size, ctypes.c_uint16, written, size),
+        "pac_live_size": (),
+        "pac_live_open": (written, text, size, ctypes.c_uint8),
+        "pac_live_close": (written,),
+        "pac_live_put": (written, text, size, text),
+        "pac_live_give": (written, written),
+        "pac_live_reset": (written,),
+        "pac_live_hold": (written, ctypes.c_uint16, ctypes.c_uint16),
+        "pac_live_exec": (written, ctypes.c_uint32, written, size, written),
+        "pac_live_step": (written, written, size, written),
+        "pac_live_peek": (written, ctypes.c_uint16, written, size),
+        "pac_live_registers": (written, written),
+        "pac_live_draw": (written, written, size),
+        "pac_live_save": (written, written, size),
+        "pac_live_load": (written, text, size),
     }
     for name, kinds in arguments.items():
         call = getattr(found, name, None)
@@ -156,7 +231,20 @@ def bytes_of(buffer: Readable) -> bytes:
 def done(code: int) -> None:
     """Passes a code of 0, and raises what another one means."""
     if code:
-        raise Refused(code)
+        raise Closed() if code == CLOSED else Refused(code)
+
+
+def block_of(buffer: Readable) -> bytes:
+    """The bytes of a block."""
+    content = bytes_of(buffer)
+    if len(content) != BOARD_SIZE:
+        raise Refused(1)
+    return content
+
+
+def given(samples: ctypes.Array[ctypes.c_int16], ran: Ran) -> array.array[int]:
+    """The samples that a call gave, of the buffer that it was handed."""
+    return array.array("h", ctypes.string_at(samples, 2 * ran.samples))
 
 
 def held_of(content: bytes) -> list[int]:
@@ -179,38 +267,24 @@ def status_of(name: str, main: Callable[[list[str]], int], words: list[str]) -> 
     return status
 
 
-class Board:
-    """A board with its ROM set. It is pickled, and copied, by that and its block."""
+class Calls:
+    """What a board answers, be it a block or live. It is pickled, and copied, by its ROM set and its block."""
 
-    def __init__(self, roms: Readable, switches: SupportsIndex = SWITCHES) -> None:
-        """A board at power-on."""
-        self.place(roms)
-        self.call("pac_init", self.roms, len(self.roms), number("switches", switches, 8))
-
-    def place(self, roms: Readable) -> None:
-        """Takes ROMs, and memory for a block."""
-        self.roms, self.memory, self.lock = bytes_of(roms), bytearray(BOARD_SIZE), threading.Lock()
-        self.state = (ctypes.c_char * BOARD_SIZE).from_buffer(self.memory)
+    roms: bytes
+    lock: threading.Lock
 
     def call(self, name: str, *words: object) -> None:
-        """Makes a call of the library for this board."""
-        with self.lock:
-            done(getattr(LIBRARY, name)(self.state, *words))
+        """Makes a call of the library for this board, by the name that it has for a block without `pac_`."""
+        raise NotImplementedError
 
     @property
     def block(self) -> bytes:
         """All of its state: a snapshot."""
-        with self.lock:
-            return bytes(self.memory)
+        raise NotImplementedError
 
-    @block.setter
-    def block(self, kept: Readable) -> None:
-        """Goes back to a snapshot. Whether it is one, the next call tells."""
-        content = bytes_of(kept)
-        if len(content) != BOARD_SIZE:
-            raise Refused(1)
-        with self.lock:
-            self.memory[:] = content
+    def become(self, roms: bytes, block: bytes) -> None:
+        """Becomes the board of a ROM set and a block, if there is one."""
+        raise NotImplementedError
 
     def __getstate__(self) -> tuple[bytes, bytes]:
         """What is kept of a board: its ROMs and its block."""
@@ -218,29 +292,24 @@ class Board:
 
     def __setstate__(self, kept: tuple[bytes, bytes]) -> None:
         """Becomes the board that was kept, where there is one."""
-        self.place(kept[0])
-        self.block = kept[1]
-        if len(self.roms) != ROMS_SIZE:
-            raise Refused(1)
-        self.call("pac_hold", 0, 0)  # (changes nothing, and refuses a block that is no board's)
+        self.become(*kept)
 
     def reset(self) -> None:
         """Does what the watchdog does."""
-        self.call("pac_reset")
+        self.call("reset")
 
     def hold(self, inputs: SupportsIndex) -> None:
         """Holds these inputs, and lets all others go."""
-        self.call("pac_hold", number("inputs", inputs, 16), 0xFFFF)
+        self.call("hold", number("inputs", inputs, 16), 0xFFFF)
 
     def run(self, microseconds: SupportsIndex, room: SupportsIndex | None = None) -> tuple[Ran, array.array[int]]:
         """Lets so many microseconds go by: what was done, and the samples. `room` is so many samples; where it is left out, enough for a
         board that isn't behind, as each but a state file's is."""
         asked = number("microseconds", microseconds, 32)
         count = asked * 12 // 125 + 2 if room is None else number("room", room, 32)
-        ran, samples = Ran(), array.array("h", bytes(2 * max(count, 1)))
-        self.call("pac_exec", self.roms, len(self.roms), asked, samples.buffer_info()[0], count, ctypes.byref(ran))
-        del samples[ran.samples :]
-        return ran, samples
+        ran, samples = Ran(), (ctypes.c_int16 * max(count, 1))()
+        self.call("exec", asked, samples, count, ctypes.byref(ran))
+        return ran, given(samples, ran)
 
     def draw(self) -> bytes:
         """The picture as it stands: red, green, blue and 255 for each pixel, row by row."""
@@ -253,14 +322,74 @@ class Board:
         buffer: Any = rgba
         if memoryview(buffer).nbytes != RGBA_SIZE:
             raise Refused(1)
-        self.call("pac_draw", self.roms, len(self.roms), (ctypes.c_char * RGBA_SIZE).from_buffer(buffer), RGBA_SIZE)
+        self.call("draw", (ctypes.c_char * RGBA_SIZE).from_buffer(buffer), RGBA_SIZE)
+
+    def image(self) -> NDArray[uint8]:
+        """The picture as it stands as an array of numpy: 224 rows of 288 pixels, each red, green, blue and 255."""
+        import numpy  # type: ignore[import,unused-ignore]  # (only who asks for it needs it)  # pylint: disable=import-outside-toplevel
+
+        found = numpy.empty((HEIGHT, WIDTH, 4), numpy.uint8)
+        self.draw_into(found)
+        return found
 
     def peek(self, address: SupportsIndex, count: SupportsIndex = 1) -> bytes:
         """What the processor would read at so many addresses from one on; after FFFFH comes 0000H."""
         found = bytearray(number("count", count, 17))
         place = (ctypes.c_char * max(len(found), 1)).from_buffer(found or bytearray(1))
-        self.call("pac_peek", self.roms, len(self.roms), number("address", address, 16), place, len(found))
+        self.call("peek", number("address", address, 16), place, len(found))
         return bytes(found)
+
+    def save(self) -> bytes:
+        """The board's state file."""
+        text = ctypes.create_string_buffer(STATE_SIZE)
+        self.call("save", text, STATE_SIZE)
+        return text.raw
+
+    def load(self, text: Readable) -> None:
+        """Becomes the board of a state file."""
+        content = bytes_of(text)
+        self.call("load", content, len(content))
+
+
+class Board(Calls):
+    """A board that is its block: each call reads and writes all of it, and `state`, `roms` and `view` may be used between calls."""
+
+    def __init__(self, roms: Readable, switches: SupportsIndex = SWITCHES) -> None:
+        """A board at power-on."""
+        self.place(bytes_of(roms))
+        self.call("init", number("switches", switches, 8))
+
+    def place(self, roms: bytes) -> None:
+        """Takes ROMs, and memory for a block."""
+        self.roms, self.memory, self.lock = roms, bytearray(BOARD_SIZE), threading.Lock()
+        self.state = (ctypes.c_char * BOARD_SIZE).from_buffer(self.memory)
+
+    def call(self, name: str, *words: object) -> None:
+        """Makes a call of the library for this board."""
+        handed = () if name in ("hold", "reset") else (self.roms, len(self.roms))
+        with self.lock:
+            done(getattr(LIBRARY, f"pac_{name}")(self.state, *handed, *words))
+
+    @property
+    def block(self) -> bytes:
+        """All of its state: a snapshot."""
+        with self.lock:
+            return bytes(self.memory)
+
+    @block.setter
+    def block(self, kept: Readable) -> None:
+        """Goes back to a snapshot. Whether it is one, the next call tells."""
+        content = block_of(kept)
+        with self.lock:
+            self.memory[:] = content
+
+    def become(self, roms: bytes, block: bytes) -> None:
+        """Becomes the board of a ROM set and a block, if there is one."""
+        self.place(roms)
+        self.block = block
+        if len(roms) != ROMS_SIZE:
+            raise Refused(1)
+        self.call("hold", 0, 0)  # (changes nothing, and refuses a block that is no board's)
 
     def view(self, part: str) -> memoryview:
         """A part of the block, of PARTS, as it is after each call: nothing is copied, and nothing can be written."""
@@ -276,21 +405,81 @@ class Board:
         found = numpy.frombuffer(self.view(part), numpy.uint8)
         return found.reshape(HEIGHT, WIDTH) if part == "picture" else found
 
-    def image(self) -> NDArray[uint8]:
-        """The picture as it stands as an array of numpy: 224 rows of 288 pixels, each red, green, blue and 255."""
-        import numpy  # type: ignore[import,unused-ignore]  # pylint: disable=import-outside-toplevel
 
-        found = numpy.empty((HEIGHT, WIDTH, 4), numpy.uint8)
-        self.draw_into(found)
+class LiveBoard(Calls):
+    """A board that stays in memory until it is closed, or nobody has it any more: a call takes as long as what it does. A call of a closed
+    one raises Closed."""
+
+    def __init__(self, roms: Readable, switches: SupportsIndex = SWITCHES) -> None:
+        """A board at power-on."""
+        self.open(bytes_of(roms), number("switches", switches, 8))
+
+    def open(self, roms: bytes, switches: int) -> None:
+        """Takes memory, and puts a board at power-on there."""
+        size = LIBRARY.pac_live_size()
+        memory = ctypes.create_string_buffer(size + ALIGNED - 1)
+        handle = Handle(-(-ctypes.addressof(memory) // ALIGNED) * ALIGNED, size)
+        handle.memory = memory  # (as long as the handle is in use)
+        done(LIBRARY.pac_live_open(ctypes.byref(handle), roms, len(roms), switches))
+        self.roms, self.handle, self.lock = roms, handle, threading.Lock()
+
+    def close(self) -> None:
+        """Gives the memory back."""
+        with self.lock:
+            done(LIBRARY.pac_live_close(ctypes.byref(self.handle)))
+            self.handle = Handle()
+
+    @property
+    def is_open(self) -> bool:
+        """Whether it wasn't closed."""
+        return self.handle.seal != 0
+
+    def __enter__(self) -> LiveBoard:
+        return self
+
+    def __exit__(self, *error: object) -> None:
+        if self.is_open:
+            self.close()
+
+    def call(self, name: str, *words: object) -> None:
+        """Makes a call of the library for this board."""
+        with self.lock:
+            done(getattr(LIBRARY, f"pac_live_{name}")(ctypes.byref(self.handle), *words))
+
+    @property
+    def block(self) -> bytes:
+        """All of its state: a snapshot."""
+        found = ctypes.create_string_buffer(BOARD_SIZE)
+        self.call("give", found)
+        return found.raw
+
+    @block.setter
+    def block(self, kept: Readable) -> None:
+        """Goes back to a snapshot, if it is one."""
+        self.put(kept)
+
+    def put(self, block: Readable, roms: Readable | None = None) -> None:
+        """Becomes the board of a block, with other ROMs where they are given."""
+        content, others = block_of(block), None if roms is None else bytes_of(roms)
+        with self.lock:
+            handed = self.roms if others is None else others
+            done(LIBRARY.pac_live_put(ctypes.byref(self.handle), handed, len(handed), content))
+            self.roms = handed
+
+    def become(self, roms: bytes, block: bytes) -> None:
+        """Becomes the board of a ROM set and a block, if there is one."""
+        self.open(roms, 0)
+        self.block = block
+
+    def step(self) -> tuple[Ran, array.array[int]]:
+        """Does one step: an instruction, one round of a repeating one, a halted step or an interrupt's acceptance. A run goes on from there to
+        the time that it would have gone to."""
+        ran, samples = Ran(), (ctypes.c_int16 * STEP_SAMPLES)()
+        self.call("step", samples, STEP_SAMPLES, ctypes.byref(ran))
+        return ran, given(samples, ran)
+
+    def registers(self) -> Registers:
+        """The registers by their names."""
+        found = Registers()
+        self.call("registers", ctypes.byref(found))
         return found
-
-    def save(self) -> bytes:
-        """The board's state file."""
-        text = ctypes.create_string_buffer(STATE_SIZE)
-        self.call("pac_save", self.roms, len(self.roms), text, STATE_SIZE)
-        return text.raw
-
-    def load(self, text: Readable) -> None:
-        """Becomes the board of a state file."""
-        content = bytes_of(text)
-        self.call("pac_load", self.roms, len(self.roms), content, len(content))

@@ -21,7 +21,7 @@ except OSError as error:
 SECOND = 61  # frames, a little more than a second
 
 
-def played(board: pacboard.Board, held: list[int]) -> list[str]:
+def played(board: pacboard.LiveBoard, held: list[int]) -> list[str]:
     """Plays frames: a sum of each one's samples and picture."""
     sums = []
     for mask in held:
@@ -37,7 +37,7 @@ def main(words: list[str]) -> int:
         print((__doc__ or "").strip())
         return 0 if "--help" in words else 2
     with open(words[0], "rb") as file:
-        board = pacboard.Board(file.read())
+        board = pacboard.LiveBoard(file.read())
     with open(words[1], "rb") as file:
         held = pacboard.held_of(file.read())
     if not held:

@@ -4,19 +4,26 @@
     PYTHON -P hosts/python/try.py REPOSITORY
 
 -P keeps Python from the folder of this file. REPOSITORY has the examples' sums, and in hosts/out the ROM blocks and what is held, which
-hosts/build leaves. Eight threads play eight boards, whose films and sounds have to have the recorded sums. The last line is
-`N passed, M failed`, and the exit status is 0 where M is 0.
+hosts/build leaves. Eight threads play eight boards, blocks and live ones, whose films and sounds have to have the recorded sums. What a live
+board does is held against a block, and its registers against the places that docs/FORMATS.md gives them. The last line is `N passed, M failed`,
+and the exit status is 0 where M is 0.
 """
 from __future__ import annotations
 
 import concurrent.futures
 import copy
+import ctypes
 import hashlib
 import importlib
+import importlib.util
 import pathlib
 import pickle
+import random
+import re
+import resource
 import struct
 import sys
+import threading
 from collections.abc import Callable
 from typing import Any
 
@@ -27,8 +34,13 @@ ROOT = pathlib.Path(sys.argv[1]) if len(sys.argv) == 2 else pathlib.Path()
 OUT, EXAMPLES = ROOT / "hosts/out", ROOT / "examples"
 THREADS = 8
 FRAMES = 30
+STEPS, CALLS, OPENED = 3000, 400, 1000  # single steps, calls of a list, and boards that are opened one after another
+MOST_LEFT = 40_000  # kibibytes that these may leave, a quarter of what they take
+LONG = 30_000_000  # microseconds of a run beside which another thread counts
+OTHERS: list[Any] = [float("inf"), float("nan"), 1.0, "1", b"1", None, [], 1j]  # what is no whole number
+KINDS: list[type[pacboard.Board] | type[pacboard.LiveBoard]] = [pacboard.Board, pacboard.LiveBoard]
 HEAD = b"P6\n288 224\n255\n"
-AT_ASKED = 74  # of a block: the microseconds that were asked so far, eight bytes
+AT_STEPS, AT_ASKED = 66, 74  # of a block: the steps, and the microseconds that were asked so far, eight bytes each
 passed = failed = 0
 
 
@@ -49,12 +61,17 @@ def fault_of(call: Callable[..., object], *words: object) -> str:
     return ""
 
 
+def roms_of(name: str) -> bytes:
+    """The ROM block of an example."""
+    return (OUT / f"{name}.roms").read_bytes()
+
+
 def board_of(name: str) -> pacboard.Board:
     """A board at power-on with the ROMs of an example."""
-    return pacboard.Board((OUT / f"{name}.roms").read_bytes())
+    return pacboard.Board(roms_of(name))
 
 
-def played(board: pacboard.Board, frames: int) -> list[bytes]:
+def played(board: pacboard.Calls, frames: int) -> list[bytes]:
     """Plays frames with nothing held: each one's samples and picture."""
     found = []
     for _ in range(frames):
@@ -63,9 +80,9 @@ def played(board: pacboard.Board, frames: int) -> list[bytes]:
     return found
 
 
-def film(name: str) -> tuple[str, str]:
+def film(name: str, board: pacboard.Calls) -> tuple[str, str]:
     """The sums of an example's film and sound."""
-    board, held = board_of(name), pacboard.held_of((OUT / f"{name}.held").read_bytes())
+    held = pacboard.held_of((OUT / f"{name}.held").read_bytes())
     rate, size = pacboard.SAMPLE_RATE, 2 * pacboard.FRAME_SAMPLES * len(held)
     frames = hashlib.sha1()
     wave = hashlib.sha1(struct.pack("<4sI8sIHHIIHH4sI", b"RIFF", 36 + size, b"WAVEfmt ", 16, 1, 1, rate, 2 * rate, 2, 16, b"data", size))
@@ -87,30 +104,205 @@ def try_threads() -> None:
     names = sorted(path.stem for path in EXAMPLES.glob("*.asm"))
     names = (names * THREADS)[:THREADS]
     with concurrent.futures.ThreadPoolExecutor(THREADS) as pool:
-        for name, found in zip(names, list(pool.map(film, names))):
-            row(f"{name} in one of {THREADS} threads", found == (sums[f"{name}/frames.ppm"], sums[f"{name}/wave.wav"]))
-        board = board_of("hello")
-        list(pool.map(lambda _: played(board, FRAMES), range(THREADS)))
-    asked = int.from_bytes(board.block[AT_ASKED : AT_ASKED + 8], "little")
-    row(f"one board in {THREADS} threads", asked == THREADS * FRAMES * pacboard.FRAME_MICROSECONDS)
+        for kind in KINDS:
+            boards = [kind(roms_of(name)) for name in names]
+            for name, found in zip(names, list(pool.map(film, names, boards))):
+                row(f"{name}, a {kind.__name__} in one of {THREADS} threads", found == (sums[f"{name}/frames.ppm"], sums[f"{name}/wave.wav"]))
+            board = kind(roms_of("hello"))
+            list(pool.map(lambda _, it=board: played(it, FRAMES), range(THREADS)))
+            asked = int.from_bytes(board.block[AT_ASKED : AT_ASKED + 8], "little")
+            row(f"one {kind.__name__} in {THREADS} threads", asked == THREADS * FRAMES * pacboard.FRAME_MICROSECONDS)
+
+
+def try_beside() -> None:
+    """Counts in one thread while a board runs in another."""
+    live, counted = pacboard.LiveBoard(roms_of("starfall")), 0
+    other = threading.Thread(target=live.run, args=(LONG,))
+    other.start()
+    while other.is_alive():
+        counted += 1
+    row("a run leaves other threads of Python free", counted > 1000)
+
+
+def laid_out(name: str) -> list[tuple[str, int]]:
+    """The fields of a struct of the header, in their order, each with its size."""
+    sizes = {"uint64_t": 8, "uint32_t": 4, "uint16_t": 2, "uint8_t": 1, "size_t": 8, "void *": 8}
+    header = (ROOT / "hosts/pacboard.h").read_text().partition(f"typedef struct {name} {{")[2].partition("}")[0]
+    rows = re.findall(r"^    (\w+(?: \*)?) ?(\w+)(?:\[(\d+)\])?;", header, re.M)
+    return [(field, sizes[kind] * int(count or 1)) for kind, field, count in rows]
+
+
+def try_structs() -> None:
+    """The structs, by the header."""
+    structs: dict[str, type[ctypes.Structure]] = {"pac_ran": pacboard.Ran, "pac_registers": pacboard.Registers, "pac_live": pacboard.Handle}
+    for name, struct_of in structs.items():
+        fields, at, is_so = laid_out(name), 0, True
+        for field, size in fields:
+            place = getattr(struct_of, field)
+            is_so, at = is_so and (place.offset, place.size) == (at, size), at + size
+        row(f"{name} by the header", is_so and at + -at % 8 == ctypes.sizeof(struct_of) and len(fields) >= 3)
+
+
+def but_asked(block: bytes) -> bytes:
+    """A block without the microseconds that were asked so far."""
+    return block[:AT_ASKED] + block[AT_ASKED + 8 :]
+
+
+def stepped(board: pacboard.Board) -> None:
+    """Has a board that is a block make one step: by microseconds, of which the shortest step has more than one."""
+    steps = board.block[AT_STEPS : AT_STEPS + 8]
+    while board.block[AT_STEPS : AT_STEPS + 8] == steps:
+        board.run(1)
+
+
+def try_steps() -> None:
+    """Single steps against a block, and the registers against their places in it."""
+    spec = importlib.util.spec_from_file_location("blocks", ROOT / "tools/lib/blocks.py")
+    assert spec and spec.loader
+    blocks = importlib.util.module_from_spec(spec)
+    spec.loader.exec_module(blocks)
+    others = {"interrupt_mode": "IM", "halted": "HALT", "after_ei": "EI", "time": "time", "steps": "steps"}
+    names = {name: others.get(name, f"{name[-1].upper()}'" if name.startswith("alternate_") else name.upper()) for name, _ in laid_out("pac_registers")[:-1]}
+    row(f"{len(names)} registers", len(names) == 29)
+    for name, first in (("starfall", 0), ("sunset", 100)):
+        live, board, is_so = pacboard.LiveBoard(roms_of(name)), board_of(name), True
+        for _ in range(first):
+            live.run(pacboard.FRAME_MICROSECONDS), board.run(pacboard.FRAME_MICROSECONDS)
+        for _ in range(STEPS):
+            ran, _ = live.step()
+            stepped(board)
+            found, block = live.registers(), board.block
+            is_so = is_so and but_asked(live.block) == but_asked(block) and 4 <= ran.ticks <= 23
+            is_so = is_so and all(getattr(found, name) == blocks.number(block, place) for name, place in names.items())
+        row(f"{STEPS} steps of {name}, each with its registers", is_so)
+
+
+def answer(it: pacboard.Calls, call: int, random_of: random.Random, kept: list[bytes]) -> object:
+    """What a call answers, of whatever name, or the code with which it is refused."""
+    number, at = random_of.randrange, random_of.randrange(len(kept))
+    try:
+        if call == 0:
+            ran, samples = it.run(number(40_000))
+            return bytes(ran), samples
+        if call == 1:
+            return it.peek(number(1 << 16), number(300))
+        if call == 2:
+            it.load(kept[0][: number(len(kept[0]))])
+        if call == 3:
+            it.__setstate__((it.roms, kept[at]))
+        calls: list[Callable[[], object]] = [it.draw, it.save, it.reset, lambda: it.hold(number(1 << 16)), lambda: it.load(it.save())]
+        return calls[call % len(calls)]()
+    except pacboard.Refused as error:
+        return error.code
+
+
+def is_same(live: pacboard.LiveBoard, board: pacboard.Board, random_of: random.Random, kept: list[bytes]) -> bool:
+    """Makes the same call on a live board and on a block: whether they answer the same, and are the same."""
+    call, seed = random_of.randrange(12), random_of.random()
+    one, two = (answer(it, call, random.Random(seed), kept) for it in (live, board))
+    if random_of.randrange(8) == 0:
+        kept.append(board.block)
+    if random_of.randrange(8) == 0:
+        live.block = board.block = random_of.choice(kept)
+    return one == two and live.block == board.block
+
+
+def try_same() -> None:
+    """Lists of calls on live boards and on blocks."""
+    for name in ("starfall", "hello"):
+        live, board, random_of = pacboard.LiveBoard(roms_of(name), 0xC1), pacboard.Board(roms_of(name), 0xC1), random.Random(name)
+        kept = [board.block]
+        row(f"{CALLS} calls of a live {name} as of a block", all(is_same(live, board, random_of, kept) for _ in range(CALLS)) and len(set(kept)) > 10)
+
+
+def try_closed() -> None:
+    """Boards that are closed, once and twice; handles that are none, and the memory that closed ones leave."""
+    with pacboard.LiveBoard(roms_of("starfall")) as live:
+        played(live, 2)
+        kept, copied, handle = live.block, copy.copy(live), pacboard.Handle(live.handle.at, live.handle.size, live.handle.seal)
+        row("open", live.is_open and not live.handle.at % pacboard.ALIGNED)
+        played(copied, 2)
+        row("a copy is another board", copied.block != kept == live.block and copied.handle.at != handle.at)
+        live.handle.seal ^= 1
+        row("another seal", fault_of(live.reset) == fault_of(live.step) == "Closed")
+        live.handle.seal ^= 1
+        row("leaves the board", live.block == kept)
+    anything: Any = live
+    calls: list[tuple[Any, ...]] = [
+        (live.close,), (live.reset,), (live.hold, 0), (live.run, 1), (live.step,), (live.draw,), (live.draw_into, bytearray(pacboard.RGBA_SIZE)), (live.peek, 0),
+        (live.peek, 0, 0), (live.registers,), (live.save,), (live.load, kept), (live.put, kept), (live.put, kept, live.roms), (getattr, live, "block"),
+        (setattr, live, "block", kept), (pickle.dumps, live), (copy.copy, live), (copy.deepcopy, live), (live.__getstate__,),
+    ]  # fmt: skip
+    for call, *words in calls:
+        row(f"{call.__name__} of a closed board", fault_of(call, *words) == "Closed" and not live.is_open)
+    row("its numbers come first", fault_of(anything.hold, -1) == "ValueError" and issubclass(pacboard.Closed, pacboard.Refused))
+    live.__setstate__(copied.__getstate__())
+    row("it may become a board again", live.is_open and live.block == copied.block and not fault_of(live.close))
+    played(copied, 1)
+    row("the copy goes on", copied.is_open and not fault_of(copied.close) and fault_of(copied.close) == "Closed")
+    before = resource.getrusage(resource.RUSAGE_SELF).ru_maxrss
+    for at in range(OPENED):
+        one = pacboard.LiveBoard(roms_of("hello"))
+        if at % 2:
+            one.close()
+    row(f"{OPENED} boards leave their memory", resource.getrusage(resource.RUSAGE_SELF).ru_maxrss - before < MOST_LEFT)
+
+
+def try_wrong() -> None:
+    """Numbers, lengths and types that no call takes: one error each, and nothing is changed."""
+    for kind in KINDS:
+        board: Any = kind(roms_of("starfall"))
+        played(board, 3)
+        kept, state, name = board.block, board.save(), kind.__name__
+        numbers: list[tuple[Any, int]] = [(board.run, 32), (lambda count: board.run(1, count), 32), (board.hold, 16), (board.peek, 16), (lambda count: board.peek(0, count), 17),
+                                          (lambda byte: kind(board.roms, byte), 8)]  # fmt: skip
+        for at, (call, bits) in enumerate(numbers):
+            row(f"{name}, call {at}: what is no whole number", all(fault_of(call, word) == "TypeError" for word in OTHERS if at != 1 or word is not None))
+            row(f"{name}, call {at}: what {bits} bits don't hold", all(fault_of(call, word) == "ValueError" for word in (-1, 1 << bits, -(1 << 64), 1 << 64, 10**400)))
+        lengths: list[tuple[Any, int]] = [(lambda roms: kind(roms), pacboard.ROMS_SIZE), (lambda block: setattr(board, "block", block), pacboard.BOARD_SIZE), (board.load, pacboard.STATE_SIZE),
+                                          (board.draw_into, pacboard.RGBA_SIZE)]  # fmt: skip
+        for at, (call, size) in enumerate(lengths):
+            wrong = [bytearray(), bytearray(1), bytearray(size - 1), bytearray(size + 1), bytearray(4 * size)]
+            row(f"{name}, length {at}", all(fault_of(call, word) == "Refused" for word in wrong))
+            row(f"{name}, length {at}: no buffer", all(fault_of(call, word) == "TypeError" for word in (None, 0, size, 1.0, "text", [0] * size)))
+        row(f"{name}: a buffer that isn't written to", fault_of(board.draw_into, bytes(pacboard.RGBA_SIZE)) == "TypeError")
+        row(f"{name}: another state's digest", fault_of(board.load, state[:-1] + bytes([state[-1] ^ 1])) == "Refused")
+        whole = bytearray(b"\xa5" * (pacboard.RGBA_SIZE + 64))
+        board.draw_into(memoryview(whole)[32:-32])
+        row(f"{name}: nothing beside a buffer", whole[:32] == whole[-32:] == b"\xa5" * 32 and whole[32:-32] == board.draw())
+        row(f"{name} is as it was", board.block == kept)
+    live = pacboard.LiveBoard(roms_of("starfall"))
+    played(live, 3)
+    kept = live.block
+    for what, one in {"zeros": bytes(pacboard.BOARD_SIZE), "a flag too many": kept[:56] + b"\xff" + kept[57:], "a picture of no colours": kept[:3224] + b"\xff" * 64_532}.items():
+        row(f"no live board of {what}", fault_of(live.put, one) == fault_of(setattr, live, "block", one) == "Refused" and live.block == kept)
+    row("no other ROMs but of their length", fault_of(live.put, kept, live.roms[1:]) == "Refused" and len(live.roms) == pacboard.ROMS_SIZE and live.block == kept)
+    live.put(kept, roms_of("hello"))
+    row("other ROMs", live.block == kept and live.peek(0, 0x4000) == roms_of("hello")[:0x4000] == live.roms[:0x4000])
 
 
 def try_pickles() -> None:
     """Pickles and copies boards."""
-    board = board_of("starfall")
+    for kind in KINDS:
+        try_pickles_of(kind(roms_of("starfall")), kind(roms_of("hello")))
+
+
+def try_pickles_of(board: pacboard.Calls, hello: pacboard.Calls) -> None:
+    """Pickles and copies a board."""
+    name = type(board).__name__
     played(board, FRAMES)
     for protocol in range(2, pickle.HIGHEST_PROTOCOL + 1):
         other = pickle.loads(pickle.dumps(board, protocol))
-        row(f"pickled by protocol {protocol}", other.block == board.block and other.roms == board.roms)
+        row(f"a {name} pickled by protocol {protocol}", other.block == board.block and other.roms == board.roms and type(other) is type(board))
     copied, kept = copy.copy(board), board.block
     is_same = played(other, FRAMES) == played(copied, FRAMES)
-    row("goes on as a copy does", is_same and other.block == copied.block)
+    row(f"a {name} goes on as a copy does", is_same and other.block == copied.block)
     row("and the first stays", board.block == kept != other.block)
     state = board.__getstate__()
     row("a pickle is ROMs and block", state == (board.roms, kept) and len(pickle.dumps(board)) < len(board.roms) + len(kept) + 200)
     wrong = {"zeros": (board.roms, bytes(pacboard.BOARD_SIZE)), "a short block": (board.roms, kept[1:]), "short ROMs": (board.roms[1:], kept)}
     for what, one in wrong.items():
-        row(f"no board of {what}", fault_of(board_of("hello").__setstate__, one) == "Refused")
+        row(f"no {name} of {what}", fault_of(hello.__setstate__, one) == "Refused")
 
 
 def try_calls() -> None:
@@ -189,7 +381,8 @@ def main() -> int:
     if not (OUT / "starfall.roms").is_file():
         print((__doc__ or "").strip())
         return 2
-    for part in (try_package, try_calls, try_views, try_arrays, try_pickles, try_threads):
+    parts = (try_package, try_structs, try_calls, try_wrong, try_views, try_arrays, try_pickles, try_closed, try_steps, try_same, try_beside, try_threads)
+    for part in parts:
         part()
     print(f"{passed} passed, {failed} failed")
     return 1 if failed else 0

@@ -1,11 +1,12 @@
 /* Plays a program on the proved board in a window, by SDL 2. hosts/sdl/build makes it.
  *
- *   player CONTENT [--held FILE] [--frames N] [--record SCRIPT] [--picture PPM] [--scale N] [--turn N]
+ *   player CONTENT [--held FILE] [--frames N] [--to ADDRESS] [--record SCRIPT] [--picture PPM] [--scale N] [--turn N]
  *
  * CONTENT is a ROM block, a manifest or a source (hosts/c/content.h); a source is assembled again whenever it is saved, and the same frame is
- * shown with it. --held takes what is held from a file of hosts/script.py instead of the keys; --frames ends after so many frames; --record
- * writes what was held as a script; --picture writes the last picture. The exit status is 0, 2 for other words, 3 where a file can't be written or
- * there is no window, and 4 where the content is refused. */
+ * shown with it. --held takes what is held from a file of hosts/script.py instead of the keys; --frames ends after so many frames; --to pauses
+ * before each instruction at an address of four hexadecimal digits, and ends there where --frames is given; --record writes what was held as a
+ * script; --picture writes the last picture. The exit status is 0, 2 for other words, 3 where a file can't be written or there is no window, and 4
+ * where the content is refused. */
 #include "../c/content.h"
 #include "../c/machine.h"
 
@@ -36,13 +37,14 @@ static const struct button {
 
 static struct {
     const char *content, *held, *record, *picture;
-    long frames, scale, turn;
-} words = {.frames = -1, .scale = 2};
+    long frames, scale, turn, to;
+} words = {.frames = -1, .scale = 2, .to = -1};
 static machine it;
 static pac_board kept[MOST_FRAMES / EACH + 1]; /* the block before each 30th frame */
 static uint16_t played[MOST_FRAMES], given[MOST_FRAMES];
+static uint32_t heard; /* samples of the frame */
 static long now, given_frames; /* frames that were played, and that --held has */
-static bool is_paused, is_over;
+static bool is_paused, is_over, is_met; /* (is_met: in a frame, at the address of --to) */
 static uint8_t rgba[PAC_RGBA_SIZE];
 static SDL_Window *window;
 static SDL_Renderer *renderer;
@@ -50,20 +52,45 @@ static SDL_Texture *texture;
 static SDL_AudioDeviceID sound;
 static SDL_GameController *pad;
 
-/* Plays a frame with these inputs, and lets it be heard; false where there is no room for it, or the board refuses it. */
+/* Lets samples be heard; those of a frame are counted. */
+static void hear(const int16_t *samples, uint32_t count)
+{
+    heard += count;
+    if (sound != 0)
+        SDL_QueueAudio(sound, samples, 2 * count);
+}
+
+/* Goes on with a frame to the address of --to: whether the board is there. */
+static bool is_at_address(void)
+{
+    static uint8_t places[MACHINE_PLACES];
+    int16_t samples[MACHINE_ROOM];
+    pac_ran ran = {0};
+    bool is_there = false;
+    if (words.to < 0)
+        return false;
+    places[words.to] = 1;
+    machine_until(&it, (uint64_t)(now + 1) * MACHINE_FRAME, places, samples, MACHINE_ROOM, &ran, &is_there);
+    return hear(samples, ran.samples), is_there;
+}
+
+/* Plays a frame with these inputs, and lets it be heard, silence after a stop too; false where there is no room for it, the board refuses it, or is at
+ * the address of --to: then the next call goes on with the frame. */
 static bool play_frame(uint16_t held, bool is_heard)
 {
-    int16_t samples[PAC_FRAME_SAMPLES + 2] = {0};
+    int16_t samples[MACHINE_ROOM] = {0};
     pac_ran ran = {0};
     if (now >= MOST_FRAMES)
         return false;
-    if (now % EACH == 0)
-        kept[now / EACH] = it.board;
-    if (machine_hold(&it, held) != PAC_DONE || machine_run(&it, PAC_FRAME_MICROSECONDS, samples, PAC_FRAME_SAMPLES + 2, &ran) != PAC_DONE)
+    if (now % EACH == 0 && !is_met)
+        pac_live_give(&it.live, &kept[now / EACH]);
+    if (!is_met)
+        heard = 0, played[now] = held;
+    if (pac_live_hold(&it.live, played[now], 0xFFFF) != PAC_DONE || (is_met = is_heard && is_at_address()) || machine_frame(&it, played[now], samples, &ran) != PAC_DONE)
         return false;
-    played[now++] = held;
-    if (is_heard && sound != 0)
-        SDL_QueueAudio(sound, samples, 2 * PAC_FRAME_SAMPLES);
+    now++;
+    if (is_heard && heard < PAC_FRAME_SAMPLES)
+        hear(samples, PAC_FRAME_SAMPLES - heard);
     return true;
 }
 
@@ -71,6 +98,7 @@ static bool play_frame(uint16_t held, bool is_heard)
 static void go_to(long frame)
 {
     long wanted = frame < 0 ? 0 : frame;
+    is_met = false;
     if (machine_put(&it, &kept[wanted / EACH]) == PAC_DONE)
         for (now = wanted / EACH * EACH; now < wanted && play_frame(played[now], false);)
             continue;
@@ -86,7 +114,7 @@ static const char *open_content(void)
         return wrong;
     if (machine_open(&it, roms, PAC_SWITCHES) != PAC_DONE)
         return "the board isn't made";
-    for (now = 0; now < wanted && play_frame(played[now], false);)
+    for (now = 0, is_met = false; now < wanted && play_frame(played[now], false);)
         continue;
     return NULL;
 }
@@ -157,7 +185,7 @@ static void show(void)
 {
     SDL_Rect whole = {(int)(words.turn % 2 * (PAC_HEIGHT - PAC_WIDTH) / 2 * words.scale), (int)(words.turn % 2 * (PAC_WIDTH - PAC_HEIGHT) / 2 * words.scale),
                       (int)(PAC_WIDTH * words.scale), (int)(PAC_HEIGHT * words.scale)};
-    if (machine_draw(&it, rgba) == PAC_DONE)
+    if (pac_live_draw(&it.live, rgba, PAC_RGBA_SIZE) == PAC_DONE)
         SDL_UpdateTexture(texture, NULL, rgba, 4 * PAC_WIDTH);
     SDL_RenderClear(renderer);
     SDL_RenderCopyEx(renderer, texture, NULL, &whole, -90.0 * (double)words.turn, NULL, SDL_FLIP_NONE);
@@ -192,6 +220,14 @@ static void wait_for_frame(void)
     due = (due + frame < tick ? tick : due) + frame;
 }
 
+/* Tells that the board is at the address of --to, where it is; with --frames that is the end. */
+static void tell_address(void)
+{
+    if (is_met)
+        fprintf(stderr, "player: at %04lX in frame %ld, T-state %llu\n", (unsigned long)words.to, now, (unsigned long long)machine_time(&it));
+    is_over = is_over || (is_met && words.frames >= 0);
+}
+
 /* Writes what was played as a script. */
 static bool write_script(void)
 {
@@ -214,7 +250,7 @@ static bool write_script(void)
 static bool write_picture(void)
 {
     FILE *file = fopen(words.picture, "wb");
-    if (file == NULL || machine_draw(&it, rgba) != PAC_DONE)
+    if (file == NULL || pac_live_draw(&it.live, rgba, PAC_RGBA_SIZE) != PAC_DONE)
         return false;
     fprintf(file, "P6\n%d %d\n255\n", PAC_WIDTH, PAC_HEIGHT);
     for (size_t at = 0; at < sizeof rgba; at += 4)
@@ -224,10 +260,10 @@ static bool write_picture(void)
 }
 
 /* A number of a word, or -1. */
-static long number(const char *word, long most)
+static long number(const char *word, long most, int base)
 {
     char *end;
-    long found = strtol(word, &end, 10);
+    long found = strtol(word, &end, base);
     return *word == '\0' || *end != '\0' || found < 0 || found > most ? -1 : found;
 }
 
@@ -237,7 +273,7 @@ static bool read_words(int count, char **word)
     for (int at = 1; at < count; at++) {
         const char *name = word[at], *value = at + 1 < count ? word[at + 1] : "";
         const char **text = strcmp(name, "--held") == 0 ? &words.held : strcmp(name, "--record") == 0 ? &words.record : strcmp(name, "--picture") == 0 ? &words.picture : NULL;
-        long *found = strcmp(name, "--frames") == 0 ? &words.frames : strcmp(name, "--scale") == 0 ? &words.scale : strcmp(name, "--turn") == 0 ? &words.turn : NULL;
+        long *found = strcmp(name, "--frames") == 0 ? &words.frames : strcmp(name, "--scale") == 0 ? &words.scale : strcmp(name, "--turn") == 0 ? &words.turn : strcmp(name, "--to") == 0 ? &words.to : NULL;
         if (text == NULL && found == NULL && (name[0] == '-' || words.content != NULL))
             return false;
         if (text == NULL && found == NULL) {
@@ -246,7 +282,7 @@ static bool read_words(int count, char **word)
         }
         if (text != NULL)
             *text = value;
-        else if ((*found = number(value, found == &words.frames ? MOST_FRAMES : found == &words.turn ? 3 : 8)) < 0)
+        else if ((*found = number(value, found == &words.to ? 0xFFFF : found == &words.frames ? MOST_FRAMES : found == &words.turn ? 3 : 8, found == &words.to ? 16 : 10)) < 0)
             return false;
         if (++at == count)
             return false;
@@ -267,7 +303,7 @@ static bool read_held(void)
 int main(int count, char **word)
 {
     if (!read_words(count, word))
-        return fprintf(stderr, "usage: player CONTENT [--held FILE] [--frames N] [--record SCRIPT] [--picture PPM] [--scale N] [--turn N]\n"), 2;
+        return fprintf(stderr, "usage: player CONTENT [--held FILE] [--frames N] [--to ADDRESS] [--record SCRIPT] [--picture PPM] [--scale N] [--turn N]\n"), 2;
     const char *wrong = !pac_matches() ? "the header is another library's" : words.held != NULL && !read_held() ? "what is held can't be read" : open_content();
     if (wrong != NULL)
         return fprintf(stderr, "player: %s: %s\n", words.content, wrong), 4;
@@ -277,7 +313,7 @@ int main(int count, char **word)
         take_events();
         look_at_source();
         if (!is_paused && !is_over && !play_frame(words.held == NULL ? held_now() : now < given_frames ? given[now] : 0, true))
-            is_paused = true;
+            is_paused = true, tell_address();
         show();
         wait_for_frame();
     }

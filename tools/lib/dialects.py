@@ -7,7 +7,8 @@ import re
 from collections.abc import Callable, Mapping
 from dataclasses import dataclass, field
 
-Tree = tuple  # ("number", n), ("name", word), ("here",), ("unary", operator, tree), ("binary", operator, tree, tree), ("choice", tree, tree, tree)
+# ("number", n), ("name", word), ("here",), ("defined", word), ("unary", operator, tree), ("binary", operator, tree, tree), ("choice", tree, tree, tree)
+Tree = tuple
 # "unary", "binary" or, where a op b op c is a op (b op c), "from right", and the operators of the rank; ranks begin with the one that binds least
 Rank = tuple[str, tuple[str, ...]]
 
@@ -90,7 +91,7 @@ def text_of(word: str, dialect: Dialect) -> bytes:
     quote, inside, found, at = word[0], word[1:-1], bytearray(), 0
     while at < len(inside):
         if inside[at] == "\\" and quote in dialect.escapes:
-            octal = re.match(r"[0-7]{2,3}", inside[at + 1 :])
+            octal = re.match(r"[0-7]{1,3}" if dialect.name == "pasmo" else r"[0-7]{2,3}", inside[at + 1 :])
             hexa = re.match(r"x([0-9A-Fa-f]{1,2})", inside[at + 1 :])
             if octal or hexa:
                 found.append(int(octal[0], 8) & 255 if octal else int(hexa[1], 16) if hexa else 0)
@@ -208,7 +209,16 @@ class Reader:
         found = NAME.match(self.text)
         if not found:
             raise Fault(f"no expression: {self.text!r}" if self.text else "an expression that isn't there")
-        return ("name", self.skip(len(found[0])))
+        word = self.skip(len(found[0]))
+        if self.dialect.name == "pasmo" and word.upper() == "NUL":  # whether nothing follows: a value that wasn't given to a macro
+            rest = self.skip(len(self.text))
+            return ("number", 0 if rest else self.dialect.truth)
+        if self.dialect.name == "pasmo" and word.upper() == "DEFINED":
+            asked = NAME.match(self.text)
+            if not asked:
+                raise Fault("DEFINED without a name")
+            return ("defined", self.skip(len(asked[0])))
+        return ("name", word)
 
     def number(self) -> int | None:
         """Takes a number, if one is next."""
@@ -278,6 +288,8 @@ def unary(sign: str, one: int, dialect: Dialect) -> int:
 def value_of(tree: Tree, dialect: Dialect, named: Callable[[str], int], here: int) -> int:
     """The value of an expression, by its assembler's rules."""
     kind = tree[0]
+    if kind == "choice":  # the branch that isn't taken isn't asked for
+        return value_of(tree[2] if value_of(tree[1], dialect, named, here) else tree[3], dialect, named, here)
     if kind in ("number", "name", "here"):
         return int(tree[1]) if kind == "number" else named(tree[1]) if kind == "name" else here
     if kind == "binary" and tree[1] in ("&&", "||"):  # what the first decides, the second isn't asked for
@@ -287,8 +299,6 @@ def value_of(tree: Tree, dialect: Dialect, named: Callable[[str], int], here: in
     parts = [value_of(part, dialect, named, here) for part in tree[1:] if isinstance(part, tuple)]
     if dialect.bits:
         parts = [part % (1 << dialect.bits) for part in parts]
-    if kind == "choice":
-        return parts[1] if parts[0] else parts[2]
     value = unary(tree[1], parts[0], dialect) if kind == "unary" else binary(tree[1], parts[0], parts[1], dialect)
     return value % (1 << dialect.bits) if dialect.bits else value
 

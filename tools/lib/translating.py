@@ -7,6 +7,7 @@ stays as it is where it says the same here, and is a number otherwise.
 import pathlib
 import re
 from collections import deque
+from collections.abc import Callable, Iterable, Iterator
 from dataclasses import dataclass, field
 
 import dialects
@@ -16,6 +17,7 @@ from dialects import Dialect, Fault, Reader, Tree, Unknown
 PASSES = 12
 DEEPEST = 40  # files and macros within one another
 LONGEST = 65_535  # lines that a source may have
+MOST_LINES = 2 * LONGEST  # lines that macros and repetitions may make, most of which say nothing
 LIMIT = 0x4000  # where the ROM ends
 WIDE = 235  # bytes of a line that is written, with its comment
 UNDOCUMENTED = {"SLL", "SLI", "SL1", "SLS"}
@@ -27,7 +29,7 @@ KINDS = {  # what a directive is, by its name without a dot
     "space": "ds defs space skip blkb rmb block",
     "blkw": "blkw", "fill": "fill", "org": "org", "equ": "equ gblequ", "set": "defl set", "align": "align", "balign": "balign", "p2align": "p2align", "even": "even",
     "if": "if", "ifdef": "ifdef", "ifndef": "ifndef", "elseif": "elseif elif", "else": "else", "endif": "endif endc fi",
-    "macro": "macro", "endm": "endm endmacro", "rept": "rept dup", "endr": "endr edup", "irp": "irp", "irpc": "irpc", "local": "local",
+    "macro": "macro", "endm": "endm endmacro", "exitm": "exitm", "rept": "rept dup", "endr": "endr edup", "irp": "irp", "irpc": "irpc", "local": "local",
     "include": "include", "incbin": "incbin insert binary", "end": "end", "area": "area section data text code", "define": "define", "undefine": "undefine",
     "nothing": "public globl global extern module title list nolist page sbttl ident type size optsdcc name endmodule proc endp cpu z80 device file",
 }  # fmt: skip
@@ -49,13 +51,16 @@ class Refused(Exception):
 
 @dataclass
 class Line:
-    """A line of a source, or one that a macro has made: where it is from, its text, and the file or expansion that it belongs to."""
+    """A line of a source, or one that a macro has made: where it is from, its text, the file or expansion that it belongs to, and how many IFs were open
+    there. A last line without a text, with which a macro or a turn of a repetition ends, says what is done then."""
 
     file: str
     number: int
     text: str
     scope: int = 0
     depth: int = 0
+    branches: int = 0
+    then: Callable[[], None] | None = None
 
 
 @dataclass
@@ -164,6 +169,7 @@ class Translation:
         self.at, self.scopes, self.main, self.numeric = 0, 0, "", dict[str, int]()
         self.areas: dict[str, int] = {}
         self.area = ""
+        self.procs: list[dict[str, str]] = []  # of each open PROC: its local names, and by which these are kept
         self.is_ended = False
         self.is_unknown = False
         self.refused, self.lines = [], 0
@@ -172,6 +178,9 @@ class Translation:
 
     def key(self, word: str, line: Line) -> str:
         """The name by which a label is kept: a local one with what it belongs to."""
+        for names in reversed(self.procs):
+            if word in names:
+                return names[word]
         if re.fullmatch(r"\d+\$", word):
             return f"{self.main}${word[:-1]}"
         if word.startswith(".") and self.dialect.locals == "label":
@@ -199,6 +208,8 @@ class Translation:
             text = re.sub(r"(?<![\w.$'\"])(\d{1,2})([bf])(?![\w'])", lambda it: f".L_{it[1]}_{self.numeric.get(it[1], 0) + (it[2] == 'f')}", text)
 
         def kept(tree: Tree) -> Tree:
+            if tree[0] == "defined":
+                return ("number", self.dialect.truth if self.is_defined(self.key(tree[1], line)) else 0)
             if tree[0] == "name":
                 key = self.key(tree[1], line)
                 return ("number", self.variables[key]) if key in self.variables else ("name", key)
@@ -219,6 +230,10 @@ class Translation:
             if str(name) in self.before or not self.before:
                 return 0
             raise Fault(f"{name} is defined nowhere") from None
+
+    def is_defined(self, key: str) -> bool:
+        """Whether a name is defined above."""
+        return key in self.symbols or key in self.variables
 
     def define(self, key: str, value: int) -> None:
         """Gives a label its value."""
@@ -266,6 +281,18 @@ class Translation:
             found.append(text)
         raise Fault(f"no {' or '.join(sorted(ends)).upper()} ends it")
 
+    def own(self, lines: list[str]) -> tuple[list[str], list[str]]:
+        """The lines of a body without those that say which names are local in it, and these names; what is within another one is its own."""
+        kept, names, depth = list[str](), list[str](), 0
+        for text in lines:
+            bare = without_comment(text, self.dialect)[0]
+            kind = self.kind(self.parts(bare)[1])
+            depth += (kind in ("macro", "rept", "irp", "irpc")) - (kind in ("endm", "endr"))
+            found = re.match(r"\s*\.?local\s+(.*)", bare, re.I) if depth == 0 else None
+            names += parted(found[1]) if found else []
+            kept += [] if found else [text]
+        return kept, names
+
     def filled(self, macro: Macro, words: list[str], count: int) -> list[str]:
         """The lines of a macro with what is given for its parameters."""
         given = {name: words[at] if at < len(words) and words[at] else macro.defaults.get(name, "") for at, name in enumerate(macro.parameters)}
@@ -285,7 +312,7 @@ class Translation:
                 both = {**given, **locals_of}
                 if both:
                     names = "|".join(re.escape(name) for name in sorted(both, key=len, reverse=True))
-                    glue = "(?:##|&)?" if self.dialect.name == "pasmo" else "'?" if self.dialect.name == "sdas" else ""
+                    glue = r"(?:\s*##\s*|&)?" if self.dialect.name == "pasmo" else "'?" if self.dialect.name == "sdas" else ""
                     text = re.sub(rf"{glue}(?<![\w.$?@])({names})(?![\w.$?@]){glue}", lambda it: both[it[1]], text)
             found.append(text)
         return found
@@ -295,31 +322,45 @@ class Translation:
         words = [word[1:-1] if word[:1] == "<" and word[-1:] == ">" else word for word in parted(rest, self.dialect)]
         if self.dialect.name == "gas" and len(words) == 1 and len(macro.parameters) > 1 and " " in words[0] and not set("()'\"+-*/") & set(words[0]):
             words = words[0].split()
-        if len(words) > len(macro.parameters):
+        if len(words) > len(macro.parameters) and self.dialect.name != "pasmo":
             raise Fault(f"a macro with {len(words)} values, which takes {len(macro.parameters)}")
         if line.depth >= DEEPEST:
             raise Fault("a macro that calls itself")
         self.scopes += 1
-        self.push([Line(line.file, line.number, text, self.scopes, line.depth + 1) for text in self.filled(macro, words, self.scopes)])
+        opened = len(self.branches)
+        place = (self.scopes, line.depth + 1, opened)
+        lines = [Line(line.file, line.number, text, *place) for text in self.filled(macro, words, self.scopes)]
+        self.push([*lines, Line(line.file, line.number, "", *place, lambda: self.close(opened))])
 
-    def repeat(self, lines: list[str], words: list[str], name: str, line: Line) -> None:
-        """Puts the lines of a repetition as often as there are words, each for a name."""
-        if len(lines) * len(words) > LONGEST or len(words) > LONGEST:
-            raise Fault("a repetition of more lines than a source may have")
-        found = []
-        for word in words:
-            self.scopes += 1
-            names = [one for text in lines if (it := re.match(r"\s*\.?local\s+(.*)", text, re.I)) for one in parted(it[1])]
-            body = [text for text in lines if not re.match(r"\s*\.?local\s", text, re.I)]
-            texts = self.filled(Macro([name] if name else [], {}, body, names), [word] if name else [], self.scopes)
-            found += [Line(line.file, line.number, text, self.scopes, line.depth + 1) for text in texts]
-        self.push(found)
+    def close(self, opened: int) -> None:
+        """Ends the IFs that were begun in a macro or a turn, as pasmo does."""
+        if self.dialect.name == "pasmo":
+            del self.branches[opened:]
+
+    def repeat(self, macro: Macro, words: Iterator[str], line: Line, opened: int) -> None:
+        """Puts the lines of a repetition once for each word, one turn after another, each with so many IFs open."""
+        self.close(opened)
+        word = next(words, None)
+        if word is None:
+            return
+        self.scopes += 1
+        place = (self.scopes, line.depth + 1, opened)
+        turn = [Line(line.file, line.number, text, *place) for text in self.filled(macro, [word], self.scopes)]
+        self.push([*turn, Line(line.file, line.number, "", *place, lambda: self.repeat(macro, words, line, opened))])
+
+    def leave(self, line: Line) -> None:
+        """Leaves the macro or the repetition that a line belongs to, with the IFs that were begun in it."""
+        while self.pending and self.pending[0].depth >= line.depth > 0:
+            self.pending.popleft()
+        del self.branches[line.branches :]
 
     # ---- Lines
 
     def kind(self, word: str) -> str:
         """What a directive is; nothing where it is none."""
         bare = word.lower().removeprefix(".")
+        if word.lower() == ".shift" and self.dialect.name == "pasmo":
+            return "shift"  # (take_directive refuses it)
         if bare in LACKING[self.dialect.name] or not bare or self.dialect.name in ("z80asm", "pasmo") and word.startswith("."):
             return ""
         if self.dialect.name in ("gas", "sdas") and not word.startswith(".") and DIRECTIVES.get(bare, "") not in ("bytes", "words", "space", "equ", "org", "end"):
@@ -430,9 +471,8 @@ class Translation:
                 words = words[0].split()
             defaults = {word.partition("=")[0].strip(): word.partition("=")[2].strip() for word in words}
             body = self.body({"endm"}, {"macro", "rept", "irp", "irpc"} if self.dialect.name in ("pasmo", "sdas") else {"macro"})
-            names = [one for text in body if (it := re.match(r"\s*\.?local\s+(.*)", without_comment(text, self.dialect)[0], re.I)) for one in parted(it[1])]
-            body = [text for text in body if not re.match(r"\s*\.?local\s", text, re.I)]
-            parameters = [name.partition(":")[0].removeprefix("?") for name in defaults]
+            body, names = self.own(body)
+            parameters = [name.partition(":")[0].removeprefix("?" if self.dialect.name == "sdas" else "") for name in defaults]
             self.macros[labels[-1]] = Macro(parameters, defaults, body, names)
         elif kind in ("rept", "irp", "irpc"):
             ends = {"endm"} if self.dialect.name in ("pasmo", "sdas") else {"endr"}
@@ -444,10 +484,14 @@ class Translation:
                 count = self.value_now(words[0] if words else "", line)
                 if count > LONGEST:
                     raise Fault(f"a repetition of {count} times")
-                self.repeat(lines, [""] * count, "", line)
+                first, step = (self.value_now(words[at], line) if len(words) > at else at - 2 for at in (2, 3))
+                names = words[1:2] if self.dialect.name == "pasmo" else []
+                given: Iterable[str] = (str((first + step * at) % 0x10000) for at in range(count))
             else:
-                given = words[1:] if kind == "irp" else list(words[1] if len(words) > 1 else "")
-                self.repeat(lines, [word.strip("<>") for word in given], words[0], line)
+                given = [word.strip("<>") for word in (words[1:] if kind == "irp" else words[1] if len(words) > 1 else "")]
+                names = words[:1]
+            body, local_names = self.own(lines)
+            self.repeat(Macro(names, {}, body, local_names), iter(given), line, len(self.branches))
         else:
             self.assign(kind, labels, rest, line, comment)
 
@@ -532,6 +576,15 @@ class Translation:
             self.defines.pop(word, None)
             if kind == "define":
                 self.defines[word] = more.strip() or "1"
+        elif kind == "exitm":
+            self.leave(line)
+        elif kind == "local" and self.procs:
+            self.scopes += 1
+            self.procs[-1] |= {name: f"{name}_p{self.scopes}" for name in parted(rest, self.dialect)}
+        elif operation.lower() in ("proc", "endp") and self.dialect.name == "pasmo":
+            if operation.lower() == "endp" and not self.procs:
+                raise Fault("ENDP without a PROC")
+            self.procs = [*self.procs, {}] if operation.lower() == "proc" else self.procs[:-1]
         elif kind not in ("nothing", "local"):
             raise Fault(f"{operation} at a place where it says nothing")
         elif operation.lower().strip(".") in ("module", "proc", "endp", "endmodule") and self.dialect.name in ("sjasmplus", "pasmo"):
@@ -642,6 +695,8 @@ class Translation:
             found.append((mnemonic, operands[::-1]))
             if operands[0][0] == "AF":
                 found.append((mnemonic, [("AF", None, ""), ("AF'", None, "")]))
+        if self.dialect.name in ("pasmo", "z80asm"):  # which take a group for a number where nothing is in memory
+            found.append((mnemonic, [("", one[1], "") if one[0] == "(" and at == len(operands) - 1 else one for at, one in enumerate(operands)]))
         if mnemonic in ("IN", "OUT") and len(operands) == 2:
             found.append((mnemonic, [("(", one[1], ")") if one[0] == "" and one[1] else one for one in operands]))
         return found
@@ -657,7 +712,12 @@ class Translation:
             raise Refused(line.file, line.number, str(fault)) from None
         while self.pending and not self.is_ended:
             line = self.pending.popleft()
+            if line.then:
+                line.then()
+                continue
             self.lines += 1
+            if self.lines > MOST_LINES:
+                raise Refused(line.file, line.number, "a repetition of more lines than a source may have")
             try:
                 self.take(line)
             except RecursionError:
