@@ -7,6 +7,8 @@ It debugs hosts/out/starfall.roms, which hosts/build leaves. LISTING is starfall
 `N passed, M failed`, and the exit status is 0 where M is 0.
 """
 import ctypes
+import importlib.machinery
+import itertools
 import pathlib
 import re
 import shutil
@@ -15,6 +17,7 @@ import subprocess
 import sys
 import tempfile
 import time
+import types
 import xml.etree.ElementTree
 from typing import Any
 
@@ -28,6 +31,7 @@ import rows
 
 OUT, SERVER = ROOT / "hosts/out", ROOT / "hosts/gdb/server.py"
 STEPS, STOPS, BACK = 3000, 40, 200
+FEW_KEPT, VECTORS, HELD_AT = 8, 0x100, 3218  # kept moments, where starfall has the address of its interrupt, and where a block has what is held
 PAIRS = "A F,B C,D E,H L,SP,PC,IX,IY,A' F',B' C',D' E',H' L',I R".split(",")  # gdb's registers, the high byte first
 NAMES = "af bc de hl sp pc ix iy af' bc' de' hl' ir".split()
 count = rows.Count("gdb", is_shown=True)
@@ -226,6 +230,29 @@ def try_calls(server: Server, one: Client) -> None:
     other.peer.close()
 
 
+def try_kept() -> None:
+    """Goes from one breakpoint to the next while inputs change and the board is reset, with few kept moments, and all the way back."""
+    loader = importlib.machinery.SourceFileLoader("server", str(SERVER))
+    server = types.ModuleType(loader.name)
+    server.__file__ = loader.path
+    loader.exec_module(server)
+    setattr(server, "MOST_KEPT", FEW_KEPT)
+    board, seen, calls = server.Board(str(OUT / "starfall.roms"), pacboard.SWITCHES), list[tuple[bool, bytes]](), itertools.count()
+    handler = int.from_bytes((OUT / "starfall.roms").read_bytes()[VECTORS : VECTORS + 2], "little")
+    commands = {5: "hold START1", 9: "hold -", 20: "hold P1_LEFT,COIN1", 33: "reset", 34: "hold P1_RIGHT", 60: "hold P1_UP"}
+    board.places[handler] = 1
+    for at in range(STOPS * 2):
+        is_met = board.go(lambda: next(calls) > 1000) == server.BREAK
+        told = board.command(commands.get(at, "frames 0").split())
+        seen.append((is_met and told == "done\n", board.block()))
+    row(f"{len(seen)} stops, between which inputs change", all(is_so for is_so, _ in seen) and len({block[HELD_AT : HELD_AT + 2] for _, block in seen}) == 5)
+    row("the kept moments", len(board.kept) <= FEW_KEPT + 2 * len(commands) and len(board.kept) > len(commands))
+    stops = [block for _, block in seen if int.from_bytes(block[52:54], "little") == handler]
+    is_same = all(board.go_back() == server.BREAK and board.block() == block for block in stops[-2::-1])
+    row(f"{len(stops) - 1} of them back, each with what was held then", is_same and len(stops) > STOPS)
+    row("and the beginning", board.go_back() == server.BEGIN and int.from_bytes(board.block()[58:66], "little") == 0)
+
+
 def try_ends(room: pathlib.Path) -> None:
     """A program that stops, and content that is none."""
     (room / "stop.roms").write_bytes(b"\x00\xed\x00" + bytes(pacboard.ROMS_SIZE - 3))
@@ -264,6 +291,7 @@ def main(words: list[str]) -> int:
             try_memory(one, pacboard.Board(board.roms), room)
             try_calls(server, one)
         try_ends(room)
+        try_kept()
         if words:
             try_symbols(room, pathlib.Path(words[0]))
     return count.end(50)

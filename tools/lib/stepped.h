@@ -1,9 +1,4 @@
-/* The board as trace.c steps it: a block, whose registers are as they are now, and the calls that go on by a step or a frame. This file alone
- * knows how a step is done; over a board that does one in a call of its own it would keep the block's registers as that call tells them.
- *
- * A step takes 4 T-states or more, and a microsecond is 3.072: so a call that asks for time up to the next microsecond after the board's own does
- * exactly one. Each call reads, checks and writes the whole block, some 57,000 instructions: that is most of a step's time.
- */
+/* The board as trace.c steps it: a live board of the library, its registers as they are now, and the calls that go on by a step or a frame. */
 #ifndef STEPPED_H
 #define STEPPED_H
 
@@ -12,10 +7,13 @@
 #include <stdio.h>
 #include <stdlib.h>
 
-enum { FRAME_TICKS = 50688, SAMPLES = 64 };
+enum { FRAME_TICKS = 50688, ALIGNED = 16, BYTES = 4 /* of the longest instruction */ };
 
-static pac_board board;
 static uint8_t roms[PAC_ROMS_SIZE + 1];
+static pac_live live;
+static pac_registers registers; /* as they are now */
+static pac_board block;         /* as `look` has found it */
+static uint64_t asked;          /* the microseconds that were asked of the board so far */
 
 /* Ends the program: its status, and why. */
 static void give_up(int status, const char *what)
@@ -25,73 +23,67 @@ static void give_up(int status, const char *what)
     exit(status);
 }
 
-/* A number of the block, its low byte first. */
-static uint64_t number(size_t at, int size)
+/* A call that has nothing to refuse. */
+static void done(uint32_t code, const char *what)
 {
-    uint64_t found = 0;
-    while (size-- > 0)
-        found = found << 8 | board.bytes[at + (size_t)size];
-    return found;
+    if (code != PAC_DONE)
+        give_up(4, what);
 }
 
-/* The byte that the processor would read at an address. */
-static uint8_t byte_at(uint16_t address)
+/* Takes the board's block, which has what the registers don't tell. */
+static void look(void)
 {
-    const uint8_t *bytes = board.bytes;
-    uint16_t at = address & 0x7FFF;
-    if (at < 0x4000)
-        return roms[at];
-    at = (at & 0x1FFF) | 0x4000;
-    if (at < 0x4400)
-        return bytes[PAC_AT_TILE_RAM + (at & 0x3FF)];
-    if (at < 0x4800)
-        return bytes[PAC_AT_COLOUR_RAM + (at & 0x3FF)];
-    if (at < 0x4C00)
-        return 0xBF;
-    if (at < 0x5000)
-        return bytes[PAC_AT_WORK_RAM + (at & 0x3FF)];
-    switch (at >> 6 & 3) {
-    case 0: return (uint8_t)~bytes[PAC_AT_HELD];
-    case 1: return (uint8_t)~bytes[PAC_AT_HELD + 1];
-    case 2: return bytes[PAC_AT_SWITCHES];
-    default: return 0xFF;
-    }
+    done(pac_live_give(&live, &block), "pac_live_give refuses");
+}
+
+/* Opens the board of the ROM block: at power-on, or, where a state file has a byte, as that has it. Whether it was refused. */
+static int open_board(const uint8_t *state, size_t length)
+{
+    live.size = (pac_live_size() + ALIGNED - 1) / ALIGNED * ALIGNED;
+    live.at = aligned_alloc(ALIGNED, live.size);
+    if (live.at == NULL)
+        give_up(3, "memory runs out");
+    if (pac_live_open(&live, roms, PAC_ROMS_SIZE, PAC_SWITCHES) != PAC_DONE || (length > 0 && pac_live_load(&live, state, length) != PAC_DONE))
+        return 1;
+    look();
+    for (int byte = 7; byte >= 0; byte--)
+        asked = asked << 8 | block.bytes[PAC_AT_ASKED + byte];
+    done(pac_live_registers(&live, &registers), "pac_live_registers refuses");
+    return 0;
+}
+
+/* Reads the bytes of the longest instruction from an address on, as the processor would. */
+static void peek(uint16_t address, uint8_t bytes[BYTES])
+{
+    done(pac_live_peek(&live, address, bytes, BYTES), "pac_live_peek refuses");
 }
 
 /* Holds these inputs from now on, and no others. */
 static void hold(uint16_t mask)
 {
-    if (pac_hold(&board, mask, 0xFFFF) != PAC_DONE)
-        give_up(4, "pac_hold refuses");
+    done(pac_live_hold(&live, mask, 0xFFFF), "pac_live_hold refuses");
 }
 
-/* Does a step: 0, or why the board stopped. Its microseconds are those up to the first one after the board's own time; where that is within
- * the same T-state, no step comes of it, and the next call asks for one more. */
-static uint32_t step(void)
+/* Does a step: what was done. */
+static pac_ran step(void)
 {
-    static int16_t samples[SAMPLES];
-    pac_ran ran = {0};
-    uint64_t time = number(PAC_AT_TIME, 8), asked = number(PAC_AT_ASKED, 8), steps = number(PAC_AT_STEPS, 8);
-    uint64_t wanted = time * 125 / 384 + 1;
-    if (wanted <= asked)
-        wanted = asked + 1;
-    if (pac_exec(&board, roms, PAC_ROMS_SIZE, (uint32_t)(wanted - asked), samples, SAMPLES, &ran) != PAC_DONE)
-        give_up(4, "pac_exec refuses");
-    uint64_t done = number(PAC_AT_STEPS, 8) - steps;
-    if (done > 1)
-        give_up(4, "more than one step was done at once");
-    return done == 0 && ran.stop == PAC_GOES ? step() : ran.stop;
+    int16_t samples[2];
+    pac_ran ran;
+    done(pac_live_step(&live, samples, 2, &ran), "pac_live_step refuses");
+    done(pac_live_registers(&live, &registers), "pac_live_registers refuses");
+    return ran;
 }
 
-/* Plays a frame without a word: 0, or why the board stopped. */
-static uint32_t pass_frame(void)
+/* Plays a frame without a word: what was done. */
+static pac_ran pass_frame(void)
 {
     static int16_t samples[2 * PAC_FRAME_SAMPLES];
-    pac_ran ran = {0};
-    uint64_t target = (number(PAC_AT_TIME, 8) / FRAME_TICKS + 1) * PAC_FRAME_MICROSECONDS, asked = number(PAC_AT_ASKED, 8);
-    if (pac_exec(&board, roms, PAC_ROMS_SIZE, (uint32_t)(target - asked), samples, 2 * PAC_FRAME_SAMPLES, &ran) != PAC_DONE)
-        give_up(4, "pac_exec refuses");
-    return ran.stop;
+    pac_ran ran;
+    uint64_t target = (registers.time / FRAME_TICKS + 1) * PAC_FRAME_MICROSECONDS;
+    done(pac_live_exec(&live, (uint32_t)(target - asked), samples, 2 * PAC_FRAME_SAMPLES, &ran), "pac_live_exec refuses");
+    asked = target;
+    done(pac_live_registers(&live, &registers), "pac_live_registers refuses");
+    return ran;
 }
 
 #endif

@@ -1,37 +1,54 @@
 /* Plays a ROM block on the board's C library, and writes what each step finds: a line, or a record of 48 bytes. bin/trace builds and calls it.
  *
- *   trace ROMS HELD FIRST LAST text|binary SKIPPED [STATE]
- *   trace ROMS session COUNT text|binary [placed] < ANSWERS
+ *   trace ROMS HELD FIRST LAST text|binary [STATE]
  *
  * ROMS is made by hosts/roms.py, and HELD, two bytes for each frame, by hosts/script.py. Steps that begin in the frames FIRST to LAST, counted from
- * 1, are written to standard output, without the first SKIPPED of them. With STATE the board of a state file is played on. table.h has the
- * instructions' texts.
+ * 1, are written to standard output. With STATE the board of a state file is played on.
  *
- * stepped.h does the steps; all that is written is read from the board's block before each.
- *
- * The second form makes the same of what `pacboard debug` answers to COUNT times `step 1` and `regs`, after a first `regs`, before which the place is
- * that of power-on unless it is told (`placed`). At a step outside of the ROM, whose bytes the session doesn't tell, it
- * ends with the status 6, and tells how many it has written.
+ * stepped.h does the steps. The text of an instruction is the library's; what it told of the bytes at an address is kept for the next time.
  *
  * The exit status is 0, 3 where a file can't be read or written, 4 where a call is refused, and 5 where the board stopped; a line tells of these.
  */
 #define _POSIX_C_SOURCE 200809L
 #include "stepped.h"
-#include "table.h"
+#include "../../hosts/pacsource.h"
 
-#include <stdio.h>
-#include <stdlib.h>
 #include <string.h>
 
-enum { LONGEST = 36000, LINE = 256, RECORD = 48, ROOM = 1 << 16, FROM = PAC_AT_A, SIZE = PAC_AT_TILE_RAM - PAC_AT_A };
+enum { LONGEST = 36000, LINE = 256, RECORD = 48, ROOM = 1 << 18, TEXT = 20, SHOWN = 40, ADDRESSES = 0x10000, WRITES = 4096 };
 
 /* What the step is that a line is about. */
 enum kind { INSTRUCTION, HALTED, ACCEPTED };
 
-static uint8_t held[2 * LONGEST + 1], file_text[PAC_STATE_SIZE + 1];
-static char room[ROOM + 2 * LINE];
+/* Through what an instruction may write. */
+enum pointer { NOTHING, BY_BC, BY_DE, BY_HL, BY_IX, BY_IY, BY_SP, BY_NUMBER, TO_PORT };
+
+/* What is known of an address: the bytes there, of how many the instruction is, and what a line shows of it from PC to the text. */
+struct known {
+    uint8_t code[BYTES], length;
+    uint8_t pointer, is_of_a, size; /* is_of_a: whether what it writes is A, and nothing else */
+    char shown[SHOWN];
+};
+
+/* What the registers don't tell: latch, vector, and blanks since the watchdog's kick. */
+struct rest {
+    uint8_t latch, vector, watchdog;
+};
+
+/* What came of the rest by a write of A to an address, as the library has shown it. */
+struct write {
+    uint16_t address;
+    uint8_t a, is_known;
+    struct rest before, after;
+};
+
+static struct known places[ADDRESSES];
+static struct write writes[WRITES], *asked_for; /* asked_for: the one that the next look is to show */
+static struct rest rest;
+static uint8_t held[2 * LONGEST + 1], state[PAC_STATE_SIZE + 1];
+static char room[ROOM + LINE], pairs[256][2];
 static size_t used;
-static long skipped; /* lines that aren't written */
+static int is_stale = 1; /* whether the rest may be another than the one that was found last */
 
 /* Reads a file: how many bytes, which are at most so many. */
 static size_t read_file(const char *name, uint8_t *bytes, size_t most)
@@ -52,288 +69,235 @@ static void flush(void)
     used = 0;
 }
 
-static char *hex(char *at, uint32_t value, int digits)
+/* A byte in hexadecimal: where the text goes on. */
+static char *put_byte(char *at, unsigned byte)
 {
-    for (int digit = digits - 1; digit >= 0; digit--)
-        *at++ = "0123456789ABCDEF"[value >> 4 * digit & 15];
-    return at;
+    return (char *)memcpy(at, pairs[byte & 0xFF], 2) + 2;
 }
 
-/* A hexadecimal number as a source has it: a 0 before a letter, and an H. */
-static char *source_number(char *at, uint32_t value, int digits)
+static char *put_word(char *at, unsigned word)
 {
-    if ((value >> 4 * (digits - 1) & 15) > 9)
-        *at++ = '0';
-    at = hex(at, value, digits);
-    *at++ = 'H';
-    return at;
+    return put_byte(put_byte(at, word >> 8), word);
 }
 
-/* The text of an instruction: of its form, in which a sign stands for each number. */
-static char *text_of(char *at, const char *form, const uint8_t *code, int length, uint16_t pc)
-{
-    int place = (code[0] == 0xDD || code[0] == 0xFD) ? 2 : 1;
-    for (; *form; form++) {
-        uint8_t low = code[place];
-        switch (*form) {
-        case '\1': at = source_number(at, code[length - 1], 2); break;
-        case '\2': at = source_number(at, (uint32_t)(code[length - 2] | code[length - 1] << 8), 4); break;
-        case '\3': at = source_number(at, (uint16_t)(pc + 2 + (int8_t)code[1]), 4); break;
-        case '\4':
-            *at++ = low < 128 ? '+' : '-';
-            at = source_number(at, low < 128 ? low : 256u - low, 2);
-            break;
-        default: *at++ = *form;
-        }
-    }
-    return at;
-}
-
-/* The form of an instruction, and how many bytes it has; a form that is NULL is none. */
-static const struct form *form_of(const uint8_t *code)
-{
-    switch (code[0]) {
-    case 0xCB: return &forms[1][code[1]];
-    case 0xED: return &forms[2][code[1]];
-    case 0xDD: return code[1] == 0xCB ? &forms[5][code[3]] : &forms[3][code[1]];
-    case 0xFD: return code[1] == 0xCB ? &forms[6][code[3]] : &forms[4][code[1]];
-    default: return &forms[0][code[0]];
-    }
-}
-
-static char *decimal(char *at, uint64_t value)
+static char *put_decimal(char *at, uint64_t value)
 {
     char digits[20];
-    int count = 0;
+    int first = 20;
     do
-        digits[count++] = (char)('0' + value % 10);
+        digits[--first] = (char)('0' + value % 10);
     while ((value /= 10) != 0);
-    while (count > 0)
-        *at++ = digits[--count];
-    return at;
+    memcpy(at, digits + first, (size_t)(20 - first));
+    return at + 20 - first;
 }
 
-/* Writes the line of a step. */
-static void put_line(enum kind kind, const uint8_t *code, int length, const char *form)
+/* Through what an instruction may write, by its text. An instruction that only reads may be taken for one that writes. */
+static enum pointer pointer_of(const char *text)
 {
-    static const struct { const char *name; size_t low, high; } words[] = {
-        {" AF=", PAC_AT_F, PAC_AT_A}, {" BC=", PAC_AT_C, PAC_AT_B}, {" DE=", PAC_AT_E, PAC_AT_D}, {" HL=", PAC_AT_L, PAC_AT_H},
-        {" IX=", PAC_AT_IX, PAC_AT_IX + 1}, {" IY=", PAC_AT_IY, PAC_AT_IY + 1}, {" SP=", PAC_AT_SP, PAC_AT_SP + 1},
-        {" AF'=", PAC_AT_ALTERNATE_F, PAC_AT_ALTERNATE_A}, {" BC'=", PAC_AT_ALTERNATE_C, PAC_AT_ALTERNATE_B},
-        {" DE'=", PAC_AT_ALTERNATE_E, PAC_AT_ALTERNATE_D}, {" HL'=", PAC_AT_ALTERNATE_L, PAC_AT_ALTERNATE_H},
+    static const struct { const char *part; enum pointer pointer; } rows[] = {
+        {"OUT", TO_PORT}, {"OT", TO_PORT}, {"PUSH", BY_SP}, {"CALL", BY_SP}, {"RST", BY_SP}, {"LDI", BY_DE}, {"LDD", BY_DE}, {"INI", BY_HL}, {"IND", BY_HL},
+        {"RLD", BY_HL}, {"RRD", BY_HL}, {"(BC", BY_BC}, {"(DE", BY_DE}, {"(HL", BY_HL}, {"(IX", BY_IX}, {"(IY", BY_IY}, {"(SP", BY_SP}, {"(", BY_NUMBER},
     };
-    const uint8_t *bytes = board.bytes;
-    uint16_t pc = (uint16_t)number(PAC_AT_PC, 2);
-    char *at = decimal(room + used, number(PAC_AT_TIME, 8));
+    for (size_t row = 0; row < sizeof rows / sizeof *rows; row++)
+        if (strstr(text, rows[row].part) != NULL)
+            return rows[row].pointer;
+    return NOTHING;
+}
+
+/* Asks the library for the instruction at an address. */
+static void learn(struct known *place, uint16_t pc)
+{
+    pac_text told;
+    char *at = place->shown;
+    const char *text = (const char *)told.bytes;
+    place->length = (uint8_t)pac_disassemble(place->code, BYTES, pc, &told);
+    if (strncmp(text, "DEFB", 4) == 0)
+        text = "no documented instruction";
+    place->pointer = pointer_of(text);
+    place->is_of_a = strncmp(text, "LD (", 4) == 0 && strcmp(text + strlen(text) - 3, "),A") == 0;
+    at = put_word(at, pc);
     *at++ = ' ';
-    at = hex(at, pc, 4);
-    *at++ = ' ';
-    for (int place = 0; place < 4; place++)
-        if (kind == INSTRUCTION && place < length)
-            at = hex(at, code[place], 2);
-        else
-            *at++ = ' ', *at++ = ' ';
-    *at++ = ' ';
-    char *begun = at;
-    if (kind == INSTRUCTION)
-        at = text_of(at, form, code, length, pc);
-    else
-        at += sprintf(at, "%s", kind == HALTED ? "HALTED" : "INTERRUPT");
-    while (at < begun + 20)
-        *at++ = ' ';
-    for (size_t word = 0; word < sizeof words / sizeof *words; word++) {
-        size_t size = strlen(words[word].name);
-        memcpy(at, words[word].name, size);
-        at = hex(at + size, (uint32_t)(bytes[words[word].high] << 8 | bytes[words[word].low]), 4);
+    memset(at, ' ', (size_t)(place->shown + SHOWN - at));
+    for (int byte = 0; byte < place->length; byte++)
+        put_byte(at + 2 * byte, place->code[byte]);
+    at += 2 * BYTES + 1;
+    size_t size = strlen(text);
+    memcpy(at, text, size);
+    place->size = (uint8_t)(at - place->shown) + (uint8_t)(size < TEXT ? TEXT : size);
+}
+
+/* What is known of the instruction at an address. */
+static const struct known *known_at(uint16_t pc)
+{
+    uint8_t code[BYTES];
+    struct known *place = &places[pc];
+    peek(pc, code);
+    if (place->length == 0 || memcmp(place->code, code, BYTES) != 0) {
+        memcpy(place->code, code, BYTES);
+        learn(place, pc);
     }
-    memcpy(at, " I=", 3), at = hex(at + 3, bytes[PAC_AT_I], 2);
-    memcpy(at, " R=", 3), at = hex(at + 3, bytes[PAC_AT_R], 2);
-    memcpy(at, " IM=", 4), at += 4, *at++ = (char)('0' + bytes[PAC_AT_INTERRUPT_MODE]);
-    memcpy(at, " IFF=", 5), at += 5, *at++ = (char)('0' + (bytes[PAC_AT_FLAGS] & 1)), *at++ = (char)('0' + (bytes[PAC_AT_FLAGS] >> 1 & 1));
-    *at++ = '\n';
-    used = (size_t)(at - room);
+    return place;
+}
+
+/* The bytes of the registers' pairs, the high one first: those of the first set, then IX, IY, SP, and those of the second. */
+static void pairs_of(const pac_registers *them, uint8_t bytes[22])
+{
+    const uint8_t found[22] = {
+        them->a, them->f, them->b, them->c, them->d, them->e, them->h, them->l, (uint8_t)(them->ix >> 8), (uint8_t)them->ix, (uint8_t)(them->iy >> 8),
+        (uint8_t)them->iy, (uint8_t)(them->sp >> 8), (uint8_t)them->sp, them->alternate_a, them->alternate_f, them->alternate_b, them->alternate_c,
+        them->alternate_d, them->alternate_e, them->alternate_h, them->alternate_l,
+    };
+    memcpy(bytes, found, sizeof found);
+}
+
+/* Writes the line of a step, as it has found the board. */
+static void put_line(const pac_registers *before, enum kind kind, const struct known *place)
+{
+    static const char form[] = " AF=0000 BC=0000 DE=0000 HL=0000 IX=0000 IY=0000 SP=0000 AF'=0000 BC'=0000 DE'=0000 HL'=0000 I=00 R=00 IM=0 IFF=00\n";
+    static const char *const others[] = {[HALTED] = "          HALTED              ", [ACCEPTED] = "          INTERRUPT           "};
+    enum { FIRST = 4, SECOND = 61, I = 95, R = 100, IM = 106, IFF = 112 }; /* where the form has them */
+    uint8_t bytes[22];
+    char *at = put_decimal(room + used, before->time);
+    *at++ = ' ';
+    if (kind == INSTRUCTION)
+        at = (char *)memcpy(at, place->shown, SHOWN) + place->size;
+    else
+        at = (char *)memcpy(put_word(at, before->pc), others[kind], TEXT + 10) + TEXT + 10;
+    memcpy(at, form, sizeof form - 1);
+    pairs_of(before, bytes);
+    for (int pair = 0; pair < 7; pair++)
+        put_byte(put_byte(at + FIRST + 8 * pair, bytes[2 * pair]), bytes[2 * pair + 1]);
+    for (int pair = 0; pair < 4; pair++)
+        put_byte(put_byte(at + SECOND + 9 * pair, bytes[14 + 2 * pair]), bytes[15 + 2 * pair]);
+    put_byte(at + I, before->i), put_byte(at + R, before->r);
+    at[IM] = (char)('0' + before->interrupt_mode), at[IFF] = (char)('0' + before->iff1), at[IFF + 1] = (char)('0' + before->iff2);
+    used = (size_t)(at - room) + sizeof form - 1;
 }
 
 /* Writes the record of a step, with its numbers' low bytes first: time (8 bytes), PC (2), kind, length, four bytes from PC on; AF to HL, IX, IY, SP
  * and the second set (22); I, R, mode, flip-flops, latch, vector, blanks since the watchdog's kick; and zeros. */
-static void put_record(enum kind kind, const uint8_t *code, int length)
+static void put_record(const pac_registers *before, enum kind kind, const struct known *place)
 {
-    static const uint8_t order[22] = {
-        PAC_AT_F, PAC_AT_A, PAC_AT_C, PAC_AT_B, PAC_AT_E, PAC_AT_D, PAC_AT_L, PAC_AT_H, PAC_AT_IX, PAC_AT_IX + 1, PAC_AT_IY, PAC_AT_IY + 1,
-        PAC_AT_SP, PAC_AT_SP + 1, PAC_AT_ALTERNATE_F, PAC_AT_ALTERNATE_A, PAC_AT_ALTERNATE_C, PAC_AT_ALTERNATE_B, PAC_AT_ALTERNATE_E,
-        PAC_AT_ALTERNATE_D, PAC_AT_ALTERNATE_L, PAC_AT_ALTERNATE_H,
-    };
-    uint8_t *at = (uint8_t *)room + used;
-    memset(at, 0, RECORD);
-    memcpy(at, board.bytes + PAC_AT_TIME, 8), memcpy(at + 8, board.bytes + PAC_AT_PC, 2);
-    at[10] = (uint8_t)kind, at[11] = (uint8_t)length, memcpy(at + 12, code, 4);
-    for (int place = 0; place < 22; place++)
-        at[16 + place] = board.bytes[order[place]];
-    at[38] = board.bytes[PAC_AT_I], at[39] = board.bytes[PAC_AT_R], at[40] = board.bytes[PAC_AT_INTERRUPT_MODE], at[41] = board.bytes[PAC_AT_FLAGS] & 3;
-    at[42] = board.bytes[PAC_AT_LATCH], at[43] = board.bytes[PAC_AT_VECTOR], at[44] = board.bytes[PAC_AT_WATCHDOG];
+    uint8_t *at = (uint8_t *)room + used, bytes[22];
+    for (int byte = 0; byte < 8; byte++)
+        at[byte] = (uint8_t)(before->time >> 8 * byte);
+    at[8] = (uint8_t)before->pc, at[9] = (uint8_t)(before->pc >> 8);
+    at[10] = (uint8_t)kind, at[11] = kind == INSTRUCTION ? place->length : 0, memcpy(at + 12, place->code, BYTES);
+    pairs_of(before, bytes);
+    for (int pair = 0; pair < 22; pair += 2)
+        at[16 + pair] = bytes[pair + 1], at[17 + pair] = bytes[pair];
+    at[38] = before->i, at[39] = before->r, at[40] = before->interrupt_mode, at[41] = (uint8_t)(before->iff1 | before->iff2 << 1);
+    at[42] = rest.latch, at[43] = rest.vector, at[44] = rest.watchdog;
+    memset(at + 45, 0, RECORD - 45);
     used += RECORD;
 }
 
-/* Writes a step of a kind, as it finds the board. */
-static void put_step(enum kind kind, int is_binary)
+/* Finds the rest. */
+static void look_at_rest(void)
 {
-    uint16_t pc = (uint16_t)number(PAC_AT_PC, 2);
-    uint8_t code[4];
-    for (int place = 0; place < 4; place++)
-        code[place] = byte_at((uint16_t)(pc + place));
-    const struct form *form = form_of(code);
-    int length = kind != INSTRUCTION ? 0 : form->text ? form->length : 1;
-    if (is_binary)
-        put_record(kind, code, length);
+    look();
+    rest = (struct rest){block.bytes[PAC_AT_LATCH], block.bytes[PAC_AT_VECTOR], block.bytes[PAC_AT_WATCHDOG]};
+    if (asked_for != NULL)
+        asked_for->after = rest, asked_for->is_known = 1, asked_for = NULL;
+    is_stale = 0;
+}
+
+/* Where an instruction writes, if it does. */
+static uint16_t written_at(const pac_registers *before, const struct known *place)
+{
+    const uint8_t *code = place->code;
+    switch ((enum pointer)place->pointer) {
+    case BY_BC: return (uint16_t)(before->b << 8 | before->c);
+    case BY_DE: return (uint16_t)(before->d << 8 | before->e);
+    case BY_HL: return (uint16_t)(before->h << 8 | before->l);
+    case BY_IX: return (uint16_t)(before->ix + (int8_t)code[2]);
+    case BY_IY: return (uint16_t)(before->iy + (int8_t)code[2]);
+    case BY_NUMBER: return (uint16_t)(code[place->length - 2] | code[place->length - 1] << 8);
+    default: return before->sp;
+    }
+}
+
+/* Takes what a write of A makes of the rest from an earlier one of the same A to the same address, over the same rest; it is asked for where there was
+ * none. */
+static void write_again(uint16_t address, uint8_t a)
+{
+    struct write *it = &writes[(address ^ address >> 8 ^ a << 4 ^ rest.latch << 2 ^ rest.watchdog) % WRITES];
+    if (it->is_known && it->address == address && it->a == a && memcmp(&it->before, &rest, sizeof rest) == 0)
+        rest = it->after;
     else
-        put_line(kind, code, length, form->text ? form->text : "no documented instruction");
+        *it = (struct write){address, a, 0, rest, rest}, asked_for = it, is_stale = 1;
 }
 
-/* What the next step is. */
-static enum kind next_kind(void)
+/* Follows the rest over a step. A blank, a port, or a write to 5000H to 50FFH may change it: to an address with bits 14 and 12, or next to one. */
+static void follow_rest(const pac_registers *before, enum kind kind, const struct known *place, const pac_ran *ran)
 {
-    uint8_t flags = board.bytes[PAC_AT_FLAGS];
-    if ((flags & PAC_IFF1) && !(flags & PAC_AFTER_EI) && board.bytes[PAC_AT_REQUEST])
+    enum pointer pointer = kind == ACCEPTED ? BY_SP : kind == HALTED ? NOTHING : (enum pointer)place->pointer;
+    uint16_t at = kind == ACCEPTED ? before->sp : written_at(before, place);
+    int is_near = pointer != NOTHING && (((at - 2) & 0x5000) == 0x5000 || ((at + 1) & 0x5000) == 0x5000);
+    if (ran->pictures != 0 || pointer == TO_PORT)
+        is_stale = 1;
+    else if (is_near && kind == INSTRUCTION && place->is_of_a)
+        write_again(at, before->a);
+    else if (is_near)
+        is_stale = 1;
+}
+
+/* What a step was: no instruction disables interrupts and pushes. (A reset by the watchdog may look so where SP is 0002H.) */
+static enum kind kind_of(const pac_registers *before, const pac_ran *ran, int is_requested)
+{
+    int is_accepted = before->iff1 && !registers.iff1 && registers.sp == (uint16_t)(before->sp - 2) && is_requested;
+    if (is_accepted || ran->stop == PAC_STOP_VECTOR)
         return ACCEPTED;
-    return flags & PAC_HALTED ? HALTED : INSTRUCTION;
+    return before->halted ? HALTED : INSTRUCTION;
 }
 
-/* Plays a ROM block: 0, or why the board stopped. */
-static uint32_t play(long frames, long first, long last, int is_binary)
+/* Does a step, and writes what it has found: 0, or why the board stopped. */
+static uint32_t trace_step(int is_binary)
 {
-    uint64_t begun = number(PAC_AT_TIME, 8) / FRAME_TICKS, frame = 0;
-    for (uint32_t stop = PAC_GOES;;) {
-        uint64_t now = number(PAC_AT_TIME, 8) / FRAME_TICKS - begun + 1;
-        if (stop != PAC_GOES || now > (uint64_t)last)
+    const pac_registers before = registers;
+    const struct known *place = known_at(before.pc);
+    if (before.sp == 2 || (is_binary && is_stale))
+        look_at_rest();
+    int is_requested = before.sp != 2 || (block.bytes[PAC_AT_REQUEST] && !before.after_ei);
+    pac_ran ran = step();
+    enum kind kind = kind_of(&before, &ran, is_requested);
+    if (is_binary)
+        put_record(&before, kind, place), follow_rest(&before, kind, place, &ran);
+    else
+        put_line(&before, kind, place);
+    if (used >= ROOM)
+        flush();
+    return ran.stop;
+}
+
+/* Plays the board, with what is held in each frame: 0, or why it stopped. */
+static uint32_t play(uint64_t frames, uint64_t first, uint64_t last, int is_binary)
+{
+    uint64_t begun = registers.time / FRAME_TICKS, frame = 0;
+    for (uint32_t stop = PAC_GOES; stop == PAC_GOES;) {
+        uint64_t now = registers.time / FRAME_TICKS - begun + 1;
+        if (now > last)
+            return PAC_GOES;
+        if (now != frame)
+            frame = now, hold(frame <= frames ? (uint16_t)(held[2 * frame - 2] | held[2 * frame - 1] << 8) : 0);
+        stop = now < first ? pass_frame().stop : trace_step(is_binary);
+        if (stop != PAC_GOES)
             return stop;
-        if (now != frame) {
-            frame = now;
-            uint16_t mask = frame <= (uint64_t)frames ? (uint16_t)(held[2 * frame - 2] | held[2 * frame - 1] << 8) : 0;
-            hold(mask);
-        }
-        if (now < (uint64_t)first) {
-            stop = pass_frame();
-            continue;
-        }
-        if (skipped-- <= 0)
-            put_step(next_kind(), is_binary);
-        stop = step();
-        if (used >= ROOM)
-            flush();
     }
-}
-
-/* Reads a line of the answers: where it begins. */
-static char *read_line(void)
-{
-    static char *line;
-    static size_t size;
-    if (getline(&line, &size, stdin) < 0)
-        give_up(3, "the session ends too soon");
-    return line;
-}
-
-/* The number of so many hexadecimal digits. */
-static uint32_t digits(const char *at, int count)
-{
-    uint32_t found = 0;
-    for (; count > 0; count--, at++)
-        found = found << 4 | (uint32_t)(*at <= '9' ? *at - '0' : *at - 'A' + 10);
-    return found;
-}
-
-/* Puts a number into the block, its low byte first. */
-static void put(size_t at, uint64_t value, int size)
-{
-    for (; size > 0; size--, value >>= 8)
-        board.bytes[at++] = (uint8_t)value;
-}
-
-/* Reads a place, as `step 5 41 000C LDIR`: whether the board stopped there. */
-static int read_place(void)
-{
-    char *line = read_line(), *at = strchr(line, ' ');
-    strtoull(at, &at, 10);
-    put(PAC_AT_TIME, strtoull(at, &at, 10), 8);
-    put(PAC_AT_PC, digits(at + 1, 4), 2);
-    board.bytes[PAC_AT_FLAGS] = strncmp(at + 6, "HALTED", 6) == 0 ? PAC_HALTED : 0;
-    return strncmp(line, "stop", 4) == 0;
-}
-
-/* Reads the two lines of the registers. */
-static void read_registers(void)
-{
-    static const size_t low[7] = {PAC_AT_F, PAC_AT_C, PAC_AT_E, PAC_AT_L, PAC_AT_IX, PAC_AT_IY, PAC_AT_SP};
-    const char *line = read_line();
-    for (int pair = 0; pair < 7; pair++) {
-        uint32_t value = digits(line + 8 * pair + 3, 4);
-        int is_high_first = pair < 4; /* A, B, D and H are before F, C, E and L */
-        board.bytes[low[pair] - (size_t)is_high_first] = (uint8_t)(is_high_first ? value >> 8 : 0);
-        board.bytes[low[pair]] = (uint8_t)value;
-        if (!is_high_first)
-            board.bytes[low[pair] + 1] = (uint8_t)(value >> 8);
-    }
-    line = read_line();
-    for (int pair = 0; pair < 4; pair++)
-        board.bytes[PAC_AT_ALTERNATE_A + 2 * pair] = (uint8_t)digits(line + 9 * pair + 4, 2),
-        board.bytes[PAC_AT_ALTERNATE_F + 2 * pair] = (uint8_t)digits(line + 9 * pair + 6, 2);
-    line += 36; /* I=01 R=6F IM=2 IFF=00 LATCH=03 VEC=00 WD=1 */
-    board.bytes[PAC_AT_I] = (uint8_t)digits(line + 2, 2), board.bytes[PAC_AT_R] = (uint8_t)digits(line + 7, 2);
-    board.bytes[PAC_AT_INTERRUPT_MODE] = (uint8_t)(line[13] - '0');
-    board.bytes[PAC_AT_FLAGS] |= (uint8_t)(line[19] - '0') | (uint8_t)((line[20] - '0') << 1);
-    board.bytes[PAC_AT_LATCH] = (uint8_t)digits(line + 28, 2), board.bytes[PAC_AT_VECTOR] = (uint8_t)digits(line + 35, 2);
-    board.bytes[PAC_AT_WATCHDOG] = (uint8_t)atoi(line + 41);
-}
-
-/* Writes the steps of a session, each once the next place shows whether it was an acceptance: no instruction disables interrupts and pushes. */
-static int follow(long count, int is_placed, int is_binary)
-{
-    long all = count;
-    uint8_t kept[SIZE], others[4];
-    int has_stopped = is_placed && read_place();
-    read_registers();
-    for (; count > 0 && !has_stopped; count--) {
-        if (number(PAC_AT_PC, 2) + 4 > 0x4000)
-            return fprintf(stderr, "%ld\n", all - count), 6;
-        memcpy(kept, board.bytes + FROM, SIZE), memcpy(others, board.bytes + PAC_AT_LATCH, 4);
-        size_t begun = used;
-        put_step(next_kind(), is_binary);
-        has_stopped = read_place();
-        read_registers();
-        uint16_t pushed = (uint16_t)(number(PAC_AT_SP, 2) + 2), before = (uint16_t)(kept[PAC_AT_SP - FROM] | kept[PAC_AT_SP + 1 - FROM] << 8);
-        if (kept[PAC_AT_FLAGS - FROM] & PAC_IFF1 && !(board.bytes[PAC_AT_FLAGS] & PAC_IFF1) && pushed == before) {
-            uint8_t now[SIZE], then[4];
-            memcpy(now, board.bytes + FROM, SIZE), memcpy(then, board.bytes + PAC_AT_LATCH, 4);
-            memcpy(board.bytes + FROM, kept, SIZE), memcpy(board.bytes + PAC_AT_LATCH, others, 4);
-            used = begun;
-            put_step(ACCEPTED, is_binary);
-            memcpy(board.bytes + FROM, now, SIZE), memcpy(board.bytes + PAC_AT_LATCH, then, 4);
-        }
-        if (used >= ROOM)
-            flush();
-    }
-    return has_stopped ? 5 : 0;
+    return PAC_GOES;
 }
 
 int main(int count, char **words)
 {
-    if (count < 5 || !pac_matches())
-        give_up(2, "usage: trace ROMS HELD FIRST LAST text|binary SKIPPED [STATE]");
+    if (count < 6 || !pac_matches())
+        give_up(2, "usage: trace ROMS HELD FIRST LAST text|binary [STATE]");
+    for (int byte = 0; byte < 256; byte++)
+        pairs[byte][0] = "0123456789ABCDEF"[byte >> 4], pairs[byte][1] = "0123456789ABCDEF"[byte & 15];
     read_file(words[1], roms, sizeof roms);
-    uint32_t code = pac_init(&board, roms, PAC_ROMS_SIZE, PAC_SWITCHES), stop = PAC_GOES;
-    if (code == PAC_DONE && strcmp(words[2], "session") == 0) {
-        int status = follow(atol(words[3]), count > 5, strcmp(words[4], "binary") == 0);
-        flush();
-        return fflush(stdout) == 0 ? status : 3;
-    }
-    if (count < 7)
-        give_up(2, "usage: trace ROMS HELD FIRST LAST text|binary SKIPPED [STATE]");
-    if (count > 7)
-        code = pac_load(&board, roms, PAC_ROMS_SIZE, file_text, read_file(words[7], file_text, sizeof file_text));
-    if (code != PAC_DONE)
+    if (open_board(state, count > 6 ? read_file(words[6], state, sizeof state) : 0))
         give_up(4, "ROM block or state file is refused");
-    skipped = atol(words[6]);
-    stop = play((long)(read_file(words[2], held, sizeof held) / 2), atol(words[3]), atol(words[4]), strcmp(words[5], "binary") == 0);
+    uint64_t frames = read_file(words[2], held, sizeof held) / 2;
+    uint32_t stop = play(frames, (uint64_t)atol(words[3]), (uint64_t)atol(words[4]), strcmp(words[5], "binary") == 0);
     flush();
     if (fflush(stdout) != 0)
         give_up(3, "the output can't be written");

@@ -1,29 +1,25 @@
 -- The second phase gives each line the entry that it has under the symbols.
 use Rattle.std.proofs.lemmas.Grind.{common_steps}
-use Rattle.std.proofs.Common.{◌≡◌, ℕ, ◌+◌, List, [], ◌∷◌, ◌++◌, Some, Result, Ok, option_map}
-use Rattle.std.proofs.Common.{refl, ap, sym, ◌∙◌, subst, append_assoc, append-nil, arith, rules}
+use Rattle.std.proofs.Common.{◌≡◌, ℕ, ◌+◌, List, [], ◌∷◌, ◌++◌, Some, Ok, option_map, refl, ap, sym, ◌∙◌, append_assoc, append-nil, arith}
+use Rattle.std.proofs.Common.{rules}
 use Rattle.pac_lemmas.proofs.Options.{same-Ok}
 use Rattle.pac_asm_program.specs.Names.{Symbol, number_of_symbol}
 use Rattle.pac_asm_program.specs.declared.line.Line.{Line}
 use Rattle.pac_asm.specs.declared.place.LineLayout.{LineLayout}
-use Rattle.pac_asm.specs.declared.fault.AsmCode.{AsmCode}
-use Rattle.pac_asm.specs.declared.fault.AsmFault.{AsmFault}
-use Rattle.pac_asm.specs.Results.{◌>>=◌, result_of_line}
 use Rattle.pac_asm.specs.Standings.{Standing, first_standing}
 use Rattle.pac_asm.specs.Phase1.{phase1}
 use Rattle.pac_asm.specs.Phase2.{line_at_place, phase2}
 use Rattle.pac_asm.specs.Assignments.{step_of, first_spot}
 use Rattle.pac_asm.specs.Entries.{entry_before, entries_after, entries_in}
 use Rattle.pac_asm.proofs.OpenIfs.{AreNested, none-nested}
-use Rattle.pac_asm.proofs.Assigned.{Extends, spot_of, start-spot, line_by, agree-text, first-line, no-line, grows, extends-less}
+use Rattle.pac_asm.proofs.InTurn.{in-line-ok, first-line}
+use Rattle.pac_asm.proofs.Values.{Extends}
+use Rattle.pac_asm.proofs.Agreed.{spot_of, line_by, agree-text}
+use Rattle.pac_asm.proofs.Assigned.{start-spot, no-line, extends-above}
 
 line-is : (symbols : List Symbol) (line : List ℕ) (place : LineLayout) →
     line_at_place symbols line place ≡ line_by (number_of_symbol symbols) line place
 line-is symbols line place = search rules
-
-in-line-ok : (number : ℕ) (answer : Result Line AsmCode) (go : Line → Result (List Line) AsmFault) (out : List Line)
-    → (result_of_line number answer >>= go) ≡ Ok out → (here : Line) × (answer ≡ Ok here) × (go here ≡ Ok out)
-in-line-ok number answer go out e = search rules
 
 -- the entries of some lines, which the second phase puts behind those of the lines above
 record Entered (symbols : List Symbol) (above : Standing) (lines : List (List ℕ)) (end : Standing) : Type 0 where
@@ -42,11 +38,9 @@ entered symbols number above nest [] end e extends = record {
 }
 entered symbols number above nest (line ∷ below) end e extends =
     let names = number_of_symbol symbols in
-    let f = first-line number above line below end e in
-    let g = grows number above nest (line ∷ below) end e in
-    let here = extends-less above.symbols g.more names (subst (λ symbols. Extends symbols names) g.is extends) in
-    let a = agree-text names above here nest line f.next f.after in
-    let rest = entered symbols (number + 1) f.next a.nested below end f.others extends in
+    let (next, after, others) = first-line number above line below end e in
+    let a = agree-text names above (extends-above number above nest (line ∷ below) end e names extends) nest line next after in
+    let rest = entered symbols (number + 1) next a.nested below end others extends in
     record {
       places = a.place ∷ rest.places;
       are = grind (arith, common_steps);

@@ -1,7 +1,7 @@
 -- Lines that are skipped leave nothing in a program.
 use Rattle.std.proofs.lemmas.Grind.{common_steps}
-use Rattle.std.proofs.Common.{◌≡◌, ℕ, ◌+◌, suc, false, List, [], ◌∷◌, ◌++◌, Some, Result, Ok, length, refl, sym}
-use Rattle.std.proofs.Common.{◌∙◌, ap, append_assoc, append-nil, length-append, arith, rules}
+use Rattle.std.proofs.Common.{◌≡◌, ℕ, ◌+◌, suc, false, List, [], ◌∷◌, ◌++◌, Some, Result, Ok, length, refl, sym, ◌∙◌, ap, append_assoc}
+use Rattle.std.proofs.Common.{append-nil, length-append, arith, rules}
 use Rattle.std.specs.Prelude.{slice_get}
 use Rattle.std.proofs.lemmas.Option.{same_Some}
 use Rattle.pac_lemmas.proofs.Lists.{slice_get-after}
@@ -14,31 +14,27 @@ use Rattle.pac_asm.specs.declared.place.LineLayout.{LineLayout}
 use Rattle.pac_asm.specs.declared.place.LineLayout.TheVariants.{Skipped}
 use Rattle.pac_asm.specs.declared.fault.AsmCode.{AsmCode}
 use Rattle.pac_asm.specs.declared.fault.AsmFault.{AsmFault}
-use Rattle.pac_asm.specs.Results.{◌>>=◌, result_of_line}
+use Rattle.pac_asm.specs.Results.{◌>>=◌}
 use Rattle.pac_asm.specs.Conditions.{is_judged}
 use Rattle.pac_asm.specs.Unclosed.{conditional_of_line}
 use Rattle.pac_asm.specs.Standings.{Standing, first_standing}
-use Rattle.pac_asm.specs.Phase1.{after_text, after_line, phase1}
+use Rattle.pac_asm.specs.Phase1.{after_text, phase1}
 use Rattle.pac_asm.specs.Phase2.{line_at_place, phase2}
 use Rattle.pac_asm.specs.Items.{AllFit}
 use Rattle.pac_asm.specs.Programs.{program_of}
 use Rattle.pac_asm.specs.Skipping.{after_texts, IsLeftOutIfSkipped, SkippedLinesAreLeftOut}
 use Rattle.pac_asm.proofs.Skipping.{passed-over}
-use Rattle.pac_asm.proofs.Sizes.{Adds, Lays, then-ok, if-ok, none-ok, text, laid}
+use Rattle.pac_asm.proofs.InTurn.{gone, if-ok, in-line-ok, first-line}
+use Rattle.pac_asm.proofs.Sizes.{text, laid}
 
 -- ---- the first phase
-
-taken-ok : (number : ℕ) (old new : Standing) (line : List ℕ) (below : List (List ℕ))
-    → result_of_line number (after_line old line below) ≡ Ok new → after_text old line ≡ Ok new
-taken-ok number old new line below e = search rules
 
 -- lines one after another, as the first phase takes them
 all-texts : (number : ℕ) (old new : Standing) (lines : List (List ℕ)) → phase1 number old lines ≡ Ok new → after_texts old lines ≡ Ok new
 unfolding phase1 after_texts
 all-texts number old new [] e = let same : old ≡ new = cc in ap (λ (s : Standing). Ok s) same
 all-texts number old new (line ∷ below) e =
-    then-ok (λ (new : Standing). after_texts old (line ∷ below) ≡ Ok new) (result_of_line number (after_line old line below)) _
-    (λ after y e1 e2. cc (taken-ok number old after line below e1, all-texts (number + 1) after y below e2)) new e
+    let (after, taken, others) = first-line number old line below new e in cc (taken, all-texts (number + 1) after new below others)
 
 -- what stands above a line, after it and at the end, and the places of all lines, the line's own among them
 record Reached (old new : Standing) (texts : List (List ℕ)) (line : List ℕ) (below : List (List ℕ)) : Type 0 where
@@ -65,11 +61,9 @@ reach : (number : ℕ) (old new : Standing) (texts below : List (List ℕ)) (lin
     → phase1 number old (texts ++ line ∷ below) ≡ Ok new → Reached old new texts line below
 unfolding phase1 after_texts
 reach number old new [] below line e =
-    then-ok (λ (new : Standing). Reached old new [] line below) (result_of_line number (after_line old line below)) _
-    (λ after y e1 e2.
-    let taken : after_text old line ≡ Ok after = taken-ok number old after line below e1 in
-    let one : Adds old after line = text old line after taken in
-    let rest : Lays after y below = laid (number + 1) after below y e2 in
+    let (after, taken, others) = first-line number old line below new e in
+    let one = text old line after taken in
+    let rest = laid (number + 1) after below new others in
     record {
       above = old;
       reached = refl;
@@ -80,16 +74,13 @@ reach number old new [] below line e =
       more = rest.places;
       places = grind (arith, common_steps);
       fit = tt;
-      others = all-texts (number + 1) after y below e2;
+      others = all-texts (number + 1) after new below others;
       skipped = own-place old after line one.place one.added taken;
-    }) new e
+    }
 reach number old new (first ∷ texts) below line e =
-    then-ok (λ (new : Standing). Reached old new (first ∷ texts) line below)
-    (result_of_line number (after_line old first (texts ++ line ∷ below))) _
-    (λ next y e1 e2.
-    let taken : after_text old first ≡ Ok next = taken-ok number old next first (texts ++ line ∷ below) e1 in
-    let one : Adds old next first = text old first next taken in
-    let rest : Reached next y texts line below = reach (number + 1) next y texts below line e2 in
+    let (next, taken, others) = first-line number old first (texts ++ line ∷ below) new e in
+    let one = text old first next taken in
+    let rest = reach (number + 1) next new texts below line others in
     record {
       above = rest.above;
       reached = ap (λ (r : Result Standing AsmCode). r >>= λ after. after_texts after texts) taken ∙ rest.reached;
@@ -102,27 +93,19 @@ reach number old new (first ∷ texts) below line e =
       fit = (one.fit, rest.fit);
       others = rest.others;
       skipped = rest.skipped;
-    }) new e
+    }
 
 -- ---- the second phase
 
 -- lines are only added
-record Grows (filled out : List Line) : Type 0 where
-  more : List Line
-  grown : out ≡ filled ++ more
-
-stays : (filled out : List Line) → ◌≡◌ {A = Result (List Line) AsmFault} (Ok filled) (Ok out) → Grows filled out
-stays filled out e = record { more = []; grown = sym (same-Ok filled out e) ∙ sym (append-nil filled) }
-
 grows : (symbols : List Symbol) (number : ℕ) (filled : List Line) (texts : List (List ℕ)) (places : List LineLayout) (out : List Line)
-    → phase2 symbols number filled texts places ≡ Ok out → Grows filled out
+    → phase2 symbols number filled texts places ≡ Ok out → (more : List Line) × (out ≡ filled ++ more)
 unfolding phase2
 grows symbols number filled (top ∷ texts) (place ∷ places) out e =
-    then-ok (λ (out : List Line). Grows filled out) (result_of_line number (line_at_place symbols top place)) _
-    (λ here y e1 e2.
-    let rest : Grows (filled ++ here ∷ []) y = grows symbols (number + 1) (filled ++ here ∷ []) texts places y e2 in
-    record { more = here ∷ rest.more; grown = rest.grown ∙ append_assoc filled (here ∷ []) rest.more }) out e
-grows symbols number filled texts places out e = stays filled out e
+    let (here, is, others) = in-line-ok number (line_at_place symbols top place) _ out e in
+    let (more, grown) = grows symbols (number + 1) (filled ++ here ∷ []) texts places out others in
+    (here ∷ more, grown ∙ append_assoc filled (here ∷ []) more)
+grows symbols number filled texts places out e = ([], sym (same-Ok filled out e) ∙ sym (append-nil filled))
 
 -- the entry of a line with a skipped place
 entry : (symbols : List Symbol) (number : ℕ) (filled : List Line) (texts below : List (List ℕ)) (line : List ℕ)
@@ -131,16 +114,14 @@ entry : (symbols : List Symbol) (number : ℕ) (filled : List Line) (texts below
     → slice_get out (length filled + length texts) ≡ Some entries.Skipped
 unfolding phase2
 entry symbols number filled [] below line [] more out fit e =
-    let rest : Grows (filled ++ entries.Skipped ∷ []) out = grows symbols (number + 1) (filled ++ entries.Skipped ∷ []) below more out e in
+    let (rest, grown) = grows symbols (number + 1) (filled ++ entries.Skipped ∷ []) below more out e in
     let at : length filled + 0 ≡ length filled = omega arith in
-    cc (at, rest.grown, append_assoc filled (entries.Skipped ∷ []) rest.more, slice_get-after filled entries.Skipped rest.more)
+    cc (at, grown, append_assoc filled (entries.Skipped ∷ []) rest, slice_get-after filled entries.Skipped rest)
 entry symbols number filled (top ∷ texts) below line (place ∷ before) more out fit e =
-    then-ok (λ (out : List Line). slice_get out (length filled + suc (length texts)) ≡ Some entries.Skipped)
-    (result_of_line number (line_at_place symbols top place)) _
-    (λ here y e1 e2.
+    let (here, is, others) = in-line-ok number (line_at_place symbols top place) _ out e in
     let at : length filled + suc (length texts) ≡ length (filled ++ here ∷ []) + length texts =
     omega (arith, length-append filled (here ∷ [])) in
-    ap (slice_get y) at ∙ entry symbols (number + 1) (filled ++ here ∷ []) texts below line before more y fit.1 e2) out e
+    ap (slice_get out) at ∙ entry symbols (number + 1) (filled ++ here ∷ []) texts below line before more out fit.1 others
 entry symbols number filled texts below line before more out fit e = absurd fit
 
 -- ---- the program
@@ -183,4 +164,4 @@ by-lines all texts below line program parts new filled first second made = grind
 
 pub skipped-lines-are-left-out : SkippedLinesAreLeftOut
 unfolding program_of
-skipped-lines-are-left-out source program e texts below line parts = grind (arith, by-lines, has, if-ok, none-ok, then-ok)
+skipped-lines-are-left-out source program e texts below line parts = grind (arith, by-lines, gone, has, if-ok)

@@ -9,6 +9,9 @@ pub mod Sizes
 pub mod LeftOut
 pub mod FirstWords
 pub mod OpenIfs
+pub mod InTurn
+pub mod Values
+pub mod Agreed
 pub mod Assigned
 pub mod Unique
 pub mod Entered

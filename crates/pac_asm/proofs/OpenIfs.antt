@@ -1,6 +1,6 @@
 -- The open IFs of the first phase, as lines are counted by.
-use Rattle.std.proofs.Common.{◌≡◌, ℤ, pos, Bool, true, false, not, List, [], ◌∷◌, Option, Some, None, Result, Ok, Err, rules}
-use Rattle.std.proofs.Common.{refl, ap, sym, subst, if◌then◌else◌, nat_lt, length}
+use Rattle.std.proofs.Common.{◌≡◌, ℤ, pos, Bool, true, false, not, List, [], ◌∷◌, Option, Some, None, Result, Ok, Err, rules, refl, ap, sym}
+use Rattle.std.proofs.Common.{subst, if◌then◌else◌, nat_lt, length}
 use Rattle.std.specs.Ordering.{int_eq}
 use Rattle.std.proofs.lemmas.Bool.{or_parts}
 use Rattle.pac_lemmas.proofs.Options.{same-Ok}
@@ -39,9 +39,6 @@ AreNested (inner ∷ outer) = IsAmong inner (counts (opens outer)) × AreNested 
 
 pub none-nested : AreNested []
 none-nested = tt
-
-pub none-open : opens [] ≡ []
-none-open = refl
 
 -- ---- which lines are read whole
 

@@ -1,36 +1,15 @@
 -- At most one assignment is right, where each name whose value is needed at once is defined above.
-use Rattle.std.proofs.Common.{◌≡◌, ℕ, ℤ, Bool, List, [], ◌∷◌, ◌++◌, Option, Some, Result, arith, rules}
-use Rattle.std.proofs.Common.{refl, ap, sym, ◌∙◌, append_assoc, inl, inr}
+use Rattle.std.proofs.Common.{◌≡◌, ℕ, ℤ, Bool, List, [], ◌∷◌, ◌++◌, Option, Some, Result, arith, ap, sym, ◌∙◌, append_assoc}
 use Rattle.std.proofs.lemmas.Option.{none-some, same_Some}
-use Rattle.pac_expr.specs.Trees.{Tree, atom, group, signed, joined}
-use Rattle.pac_expr.specs.Trees as trees
-use Rattle.pac_expr.specs.Values.{sign_value, joined_value, tree_value}
 use Rattle.pac_asm_program.specs.Names.{Symbol, number_of_symbol}
 use Rattle.pac_asm_line.specs.Statements.{Statement, Form}
 use Rattle.pac_asm.specs.declared.fault.AsmCode.{AsmCode}
 use Rattle.pac_asm.specs.Counting.{is_read}
 use Rattle.pac_asm.specs.Unclosed.{conditional_of_line}
-use Rattle.pac_asm.specs.Assignments.{Spot, LineStep, step_by, step_read, step_if, step_of, defined_after, defined_in, NamesStand}
-use Rattle.pac_asm.specs.Assignments.{StatementStands, ReadStands, LineStands, RestStands, AreDefinedAbove, AtMostOneIsRight}
-use Rattle.pac_asm.proofs.Assigned.{Extends, found-first, mapped}
-
--- ---- one value
-
--- an expression of known names has the value, or the fault, that they give it
-known-value : (above : List Symbol) (names : List ℕ → Option ℤ) → Extends above names → (at : ℕ) (tree : Tree) → NamesStand above tree
-    → tree_value names at tree ≡ tree_value (number_of_symbol above) at tree
-known-value above names extends at (atom (trees.name text)) h = search rules
-known-value above names extends at (group tree) h = known-value above names extends at tree h
-known-value above names extends at (signed sign tree) h = ap (sign_value sign) (known-value above names extends at tree h)
-known-value above names extends at (joined operator left right) h =
-    λ i. joined_value operator
-    (known-value above names extends at left (λ u. h (inl u)) i)
-    (known-value above names extends at right (λ u. h (inr u)) i)
-known-value above names extends at tree h = refl
-
-same-value : (above : List Symbol) (a b : List ℕ → Option ℤ) → Extends above a → Extends above b → (at : ℕ) (tree : Tree)
-    → NamesStand above tree → tree_value a at tree ≡ tree_value b at tree
-same-value above a b ea eb at tree h = known-value above a ea at tree h ∙ sym (known-value above b eb at tree h)
+use Rattle.pac_asm.specs.Assignments.{Spot, LineStep, step_by, step_read, step_if, step_of, defined_after, defined_in, StatementStands}
+use Rattle.pac_asm.specs.Assignments.{ReadStands, LineStands, RestStands, AreDefinedAbove, AtMostOneIsRight}
+use Rattle.pac_asm.proofs.Values.{Extends, found-first, same-value}
+use Rattle.pac_asm.proofs.Assigned.{mapped}
 
 -- ---- one step
 

@@ -48,15 +48,9 @@ impl IfState {
 }
 
 /// The open IFs, at most eight. Clauses see a list of them with the innermost first.
+#[derive(Drop)]
 pub(crate) struct Conditions {
     open: ArrayVec<IfState, 8>,
-}
-
-impl Drop for Conditions {
-    /// Drops the list.
-    fn drop(self) {
-        let Conditions { open: _ } = self;
-    }
 }
 
 impl Model for Conditions {

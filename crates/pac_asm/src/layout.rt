@@ -13,19 +13,10 @@ use std::marker::Model;
 
 /// What became of the lines so far, with a mark for each byte of the ROM that one of them has. Clauses see the
 /// places alone.
+#[derive(Drop)]
 pub(crate) struct Layout {
     places: Vec<LineLayout, Global>,
     taken: Box<[bool; 16384], Global>,
-}
-
-impl Drop for Layout {
-    /// Drops each part.
-    fn drop(self) {
-        let Layout {
-            places: _,
-            taken: _,
-        } = self;
-    }
 }
 
 impl Model for Layout {

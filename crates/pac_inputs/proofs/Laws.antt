@@ -1,7 +1,7 @@
 -- A text is read as the script that it is, and refused at the fault that it has.
 use Rattle.std.proofs.lemmas.Grind.{common_steps}
 use Rattle.std.proofs.Common.{◌≡◌, ℕ, ◌+◌, ◌≤◌, List, [], ◌∷◌, ◌++◌, length, Some, None, Result, Ok, Err, refl, sym, ap, ◌∙◌, subst, arith}
-use Rattle.std.proofs.Common.{inl, inr, append-nil, append_assoc, rules}
+use Rattle.std.proofs.Common.{inl, inr, ◌⊎◌, append-nil, append_assoc, rules}
 use Rattle.std.specs.Prelude.{IfOk, IfErr}
 use Rattle.std.proofs.lemmas.Bool.{cases_lt, le-ltb}
 use Rattle.std.specs.Str.Lines.{lines}
@@ -76,150 +76,70 @@ fault-again text fault h =
     failed : ScriptFault → ScriptOrFault
     failed f = Err f
 
--- ---- what is read is so
+-- ---- each text is a script or has a fault
 
-data Kind (line : Line) : Type 0 where
-  nothing : meaning line ≡ Ok None → Kind line
-  adds : (s : Stretch) → meaning line ≡ Ok (Some s) → Kind line
-  fails : (code : ScriptCode) → meaning line ≡ Err code → Kind line
+says-both : (xs ys : List Line) (said more : List Stretch) → Says xs said → Says ys more → Says (xs ++ ys) (said ++ more)
+says-both [] ys said more none h = subst (λ (before : List Stretch). Says ys (before ++ more)) (sym none) h
+says-both (x ∷ xs) ys said more (inl (is, says)) h = inl (is, says-both xs ys said more says h)
+says-both (x ∷ xs) ys said more (inr (s, rest, is, parts, says)) h =
+    inr (s, rest ++ more, is, ap (λ (before : List Stretch). before ++ more) parts, says-both xs ys rest more says h)
 
-kind : (line : Line) → Kind line
-kind line = of (meaning line) refl
-  where
-    of : (m : Meaning) → meaning line ≡ m → Kind line
-    of (Ok None) e = nothing e
-    of (Ok (Some s)) e = adds s e
-    of (Err code) e = fails code e
+abbrev IsEither : List ℕ → Type 0
+IsEither text = ((said : List Stretch) × IsScript text said) ⊎ ((fault : ScriptFault) × HasScriptFault text fault)
 
-apart : (r : ScriptOrFault) (said : List Stretch) (fault : ScriptFault) → r ≡ Ok said → r ≡ Err fault → ⊥
-apart r said fault e f = cc
+-- where the lines before one are right: it has a fault, or the lines up to it say this
+module _ (text : List ℕ) (earlier : List Line) (said : List Stretch) (says : Says earlier said) (within : total_frames said ≤ 36000)
+    (line : Line) (later : List Line) (parts : lines text ≡ earlier ++ line ∷ later) where
+  fails : (code : ScriptCode) → IsLineFault (total_frames said) line code → IsEither text
+  fails code faulty = inr (
+    at code (length earlier + 1),
+    record {
+      earlier = earlier;
+      wrong = line;
+      later = later;
+      said = said;
+      parts = parts;
+      line = refl;
+      says = says;
+      within = within;
+      faulty = faulty;
+    },
+  )
 
-one-ok : (r : ScriptOrFault) (xs ys : List Stretch) → r ≡ Ok xs → r ≡ Ok ys → xs ≡ ys
-one-ok r xs ys e f = cc
-
-one-err : (r : ScriptOrFault) (x y : ScriptFault) → r ≡ Err x → r ≡ Err y → x ≡ y
-one-err r x y e f = cc
-
-record IsSaid (before : List Stretch) (ls : List Line) (all : List Stretch) : Type 0 where
-  said : List Stretch
-  says : Says ls said
-  parts : before ++ said ≡ all
-  within : total_frames before + total_frames said ≤ 36000
-
-is-said : (n : ℕ) (before : List Stretch) (ls : List Line) (all : List Stretch) → total_frames before ≤ 36000 →
-    script_from_line n before ls ≡ Ok all
-    → IsSaid before ls all
-is-said n before [] all h e = record {
-  said = [];
-  says = refl;
-  parts = append-nil before ∙ one-ok (script_from_line n before []) before all (read-end n before) e;
-  within = omega (arith, h);
-}
-is-said n before (line ∷ ls) all h e = elim (kind line) [
-  | nothing is ↦
-      let more = is-said (n + 1) before ls all h (sym (read-nothing n before line ls is) ∙ e) in
-      record { said = more.said; says = inl (is, more.says); parts = more.parts; within = more.within }
-  | fails code is ↦ absurd (apart (script_from_line n before (line ∷ ls)) all (at code n) e (read-fault n before line ls code (inl is)))
-  | adds s is ↦ elim (cases_lt 36000 (total_frames before + s.frames)) [
-    | inl long ↦
-        absurd (apart (script_from_line n before (line ∷ ls)) all (at Length n) e
-        (read-fault n before line ls Length (inr (s, is, long, refl))))
-    | inr fits ↦
-        let sum = total-after before s in
-        let more =
-        is-said (n + 1) (before ++ s ∷ []) ls all (omega (arith, sum, fits)) (sym (read-stretch n before line ls s is fits) ∙ e) in
-        record {
-          said = s ∷ more.said;
-          says = inr (s, more.said, is, refl, more.says);
-          parts = sym (append_assoc before (s ∷ []) more.said) ∙ more.parts;
-          within = let w = more.within in omega (arith, sum, w);
-        }
+  goes-on : (m : Meaning) → meaning line ≡ m
+      → ((new : List Stretch) → Says (line ∷ []) new → total_frames (said ++ new) ≤ 36000 → IsEither text) → IsEither text
+  goes-on (Ok None) is next = next [] (inl (is, refl)) (rw append-nil within)
+  goes-on (Err code) is next = fails code (inl is)
+  goes-on (Ok (Some s)) is next = elim (cases_lt 36000 (total_frames said + s.frames)) [
+    | inl long ↦ fails Length (inr (s, is, long, refl))
+    | inr fits ↦ next (s ∷ []) (inr (s, [], is, refl, refl)) (omega (arith, fits, total-after said s))
   ]
-]
+
+by-lines : (text : List ℕ) (earlier : List Line) (said : List Stretch) → Says earlier said → total_frames said ≤ 36000
+    → (rest : List Line) → lines text ≡ earlier ++ rest → IsEither text
+by-lines text earlier said says within [] parts =
+    inl (said, record { says = subst (λ (ls : List Line). Says ls said) (sym (parts ∙ append-nil earlier)) says; within = within })
+by-lines text earlier said says within (line ∷ later) parts =
+    goes-on text earlier said says within line later parts (meaning line) refl (λ new here fits.
+    by-lines text (earlier ++ line ∷ []) (said ++ new) (says-both earlier (line ∷ []) said new says here) fits later
+    (parts ∙ sym (append_assoc earlier (line ∷ []) later)))
+
+is-either : (text : List ℕ) → IsEither text
+is-either text = by-lines text [] [] refl (omega arith) (lines text) refl
+
+-- ---- so what is read is so
 
 pub is-script : (text : List ℕ) (all : List Stretch) → script_of text ≡ Ok all → IsScript text all
-is-script text all e =
-    let found = is-said 1 [] (lines text) all (omega arith) e in
-    let within : 0 + total_frames found.said ≤ 36000 = found.within in
-    subst (λ (x : List Stretch). IsScript text x) found.parts (record { says = found.says; within = omega (arith, within) })
-
-record IsTold (n : ℕ) (before : List Stretch) (ls : List Line) (fault : ScriptFault) : Type 0 where
-  earlier : List Line
-  wrong : Line
-  later : List Line
-  said : List Stretch
-  parts : ls ≡ earlier ++ wrong ∷ later
-  line : fault.line ≡ length earlier + n
-  says : Says earlier said
-  within : total_frames before + total_frames said ≤ 36000
-  faulty : IsLineFault (total_frames before + total_frames said) wrong fault.code
-
-told-here : (n : ℕ) (before : List Stretch) (line : Line) (ls : List Line) (code : ScriptCode) (fault : ScriptFault) →
-    total_frames before ≤ 36000
-    → IsLineFault (total_frames before) line code
-    → script_from_line n before (line ∷ ls) ≡ Err fault → IsTold n before (line ∷ ls) fault
-told-here n before line ls code fault h is e =
-    let nothing_more : total_frames before ≡ total_frames before + 0 = omega arith in
-    subst (λ (f : ScriptFault). IsTold n before (line ∷ ls) f)
-    (one-err (script_from_line n before (line ∷ ls)) (at code n) fault (read-fault n before line ls code is) e)
-    (record {
-      earlier = [];
-      wrong = line;
-      later = ls;
-      said = [];
-      parts = refl;
-      line = omega arith;
-      says = refl;
-      within = omega (arith, h);
-      faulty = subst (λ k. IsLineFault k line code) nothing_more is;
-    })
-
-is-told : (n : ℕ) (before : List Stretch) (ls : List Line) (fault : ScriptFault) → total_frames before ≤ 36000 →
-    script_from_line n before ls ≡ Err fault
-    → IsTold n before ls fault
-is-told n before [] fault h e = absurd (apart (script_from_line n before []) before fault (read-end n before) e)
-is-told n before (line ∷ ls) fault h e = elim (kind line) [
-  | nothing is ↦
-      let more = is-told (n + 1) before ls fault h (sym (read-nothing n before line ls is) ∙ e) in
-      record {
-        earlier = line ∷ more.earlier;
-        wrong = more.wrong;
-        later = more.later;
-        said = more.said;
-        parts = ap (λ (x : List Line). line ∷ x) more.parts;
-        line = let l = more.line in omega (arith, l);
-        says = inl (is, more.says);
-        within = more.within;
-        faulty = more.faulty;
-      }
-  | fails code is ↦ told-here n before line ls code fault h (inl is) e
-  | adds s is ↦ elim (cases_lt 36000 (total_frames before + s.frames)) [
-    | inl long ↦ told-here n before line ls Length fault h (inr (s, is, long, refl)) e
-    | inr fits ↦
-        let sum = total-after before s in
-        let more =
-        is-told (n + 1) (before ++ s ∷ []) ls fault (omega (arith, sum, fits)) (sym (read-stretch n before line ls s is fits) ∙ e) in
-        let all : total_frames (before ++ s ∷ []) + total_frames more.said ≡ total_frames before + (s.frames + total_frames more.said) =
-        omega (arith, sum) in
-        record {
-          earlier = line ∷ more.earlier;
-          wrong = more.wrong;
-          later = more.later;
-          said = s ∷ more.said;
-          parts = ap (λ (x : List Line). line ∷ x) more.parts;
-          line = let l = more.line in omega (arith, l);
-          says = inr (s, more.said, is, refl, more.says);
-          within = let w = more.within in omega (arith, all, w);
-          faulty = subst (λ k. IsLineFault k more.wrong fault.code) all more.faulty;
-        }
-  ]
+is-script text all e = elim (is-either text) [
+  | inl (said, is) ↦ subst (IsScript text) (cc (script-again text said is, e)) is
+  | inr (fault, has) ↦ absurd (cc (fault-again text fault has, e))
 ]
 
 pub has-fault : (text : List ℕ) (fault : ScriptFault) → script_of text ≡ Err fault → HasScriptFault text fault
-has-fault text fault e =
-    let told = is-told 1 [] (lines text) fault (omega arith) e in
-    let within : 0 + total_frames told.said ≤ 36000 = told.within in
-    let none : 0 + total_frames told.said ≡ total_frames told.said = omega arith in search rules
+has-fault text fault e = elim (is-either text) [
+  | inl (said, is) ↦ absurd (cc (script-again text said is, e))
+  | inr (other, has) ↦ subst (HasScriptFault text) (cc (fault-again text other has, e)) has
+]
 
 -- ---- the same of an answer
 

@@ -1,13 +1,12 @@
 -- Names read one after another, and bytes that can be no name.
-use Rattle.std.proofs.Common.{◌≡◌, ℕ, zero, suc, ◌+◌, ◌<◌, get_or, arith, Bool, true, List, [], ◌∷◌, length, Option, Some, None, refl}
-use Rattle.std.proofs.Common.{sym, inl, inr, nat_eq, subst, Bor, option_map, IfNone, IfSome, rules}
+use Rattle.std.proofs.Common.{◌≡◌, ℕ, zero, suc, ◌+◌, ◌<◌, get_or, arith, Bool, true, List, [], ◌∷◌, length, Option, Some, None, refl, sym}
+use Rattle.std.proofs.Common.{inl, inr, nat_eq, subst, Bor, option_map}
 use Rattle.std.specs.List.{list_all, slice_split}
 use Rattle.std.specs.Str.{IsUtf8}
 use Rattle.std.proofs.lemmas.Str.{IsUtf8-from_ascii}
 use Rattle.std.proofs.lemmas.Bool.{cases_Bool, and_parts, ltb-true}
 use Rattle.std.specs.Char.{is_ascii}
 use Rattle.std.specs.Cmp.Lexicographic.{pointwise, same_text}
-use Rattle.std.specs.Int.RustNames.{bit_or}
 use Rattle.bitflags.specs.Sets.{Row, find_row, find_name}
 use Rattle.pac_lemmas.proofs.Parts.{last-part, more-parts}
 use Rattle.pac_inputs.specs.Inputs.{input_bits}
@@ -46,18 +45,6 @@ texts names = option_map (λ b. b.now) names
 abbrev pub left : Option (List ℕ) → ℕ
 left None = 0
 left (Some names) = length names + 1
-
-one-more : (held bit : ℕ) (name : List ℕ) (names : List (List ℕ)) → find_name input_bits name ≡ Some bit
-    → with_names (bit_or held bit) names ≡ with_names held (name ∷ names)
-one-more held bit name names e = rw e refl
-
--- What the names come to stays the same, as the first of them is taken.
-pub name-read : (held bit now : ℕ) (old after : Option (Bor (List ℕ))) (names : Bor (List ℕ)) (name : List ℕ) (all : Option ℕ)
-    → with_rest held (texts old) ≡ all → old ≡ Some names
-    → IfNone after (slice_split is_comma_byte names.now ≡ name ∷ [])
-    → IfSome after (λ b. slice_split is_comma_byte names.now ≡ name ∷ slice_split is_comma_byte b.now)
-    → find_name input_bits name ≡ Some bit → now ≡ bit_or held bit → with_rest now (texts after) ≡ all
-name-read held bit now old after names name all so_far is last more e joined = search rules
 
 pub ruleset all_parts = (last-part, more-parts)
 

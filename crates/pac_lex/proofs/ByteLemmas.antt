@@ -1,6 +1,5 @@
 -- What the first byte of a token is, and what it isn't.
-use Rattle.std.proofs.Common.{rules, ◌≡◌, ℕ, Bool, true, false, not, eqb, cond, ◌||◌, List, [], ◌∷◌, Some, refl, arith, inl, inr, ◌⊎◌}
-use Rattle.std.proofs.Common.{subst}
+use Rattle.std.proofs.Common.{rules, ◌≡◌, ℕ, Bool, true, false, eqb, cond, List, [], ◌∷◌, Some, refl, arith, inl, inr, ◌⊎◌, subst}
 use Rattle.std.specs.List.{list_all}
 use Rattle.std.specs.Map.{lookup}
 use Rattle.std.specs.Char.{is_ascii_digit}
@@ -9,7 +8,7 @@ use Rattle.std.proofs.lemmas.Bool.Decides.{nat_tests}
 use Rattle.std.proofs.lemmas.Option.{same_Some, none-some}
 use Rattle.pac_lex.specs.declared.token.TokenKind.{TokenKind}
 use Rattle.pac_lex.specs.declared.token.TokenKind.TheVariants.{Name, Number, Text, AlternateAf}
-use Rattle.pac_lex.specs.Bytes.{is_blank, is_comment_start, is_quote, is_name_start}
+use Rattle.pac_lex.specs.Bytes.{is_blank, is_comment_start, is_name_start}
 use Rattle.pac_lex.specs.Tokens.{one_byte_kind, one_byte_kinds, begins}
 use Rattle.pac_lex.specs.Scan.{is_end}
 
@@ -59,7 +58,3 @@ is_mark kind = true
 
 pub symbol-is-mark : (b : ℕ) (kind : TokenKind) → one_byte_kind b ≡ Some kind → is_mark kind ≡ true
 symbol-is-mark b kind e = row-passes (λ row. is_mark row.1) one_byte_kinds b kind refl e
-
--- no letter, digit, quote, blank or comment
-abbrev is_plain : ℕ → Bool
-is_plain b = not (is_name_start b || is_ascii_digit b || is_quote b || is_blank b || is_comment_start b)

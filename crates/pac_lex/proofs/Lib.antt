@@ -9,6 +9,7 @@ pub mod ScanLemmas
 pub mod CharacterLemmas
 pub mod TextLaws
 pub mod TokenLaws
+pub mod TokensAgain
 pub mod LineLaws
 pub mod AnswerLaws
 pub mod ReadingLaws

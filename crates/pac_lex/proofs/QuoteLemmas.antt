@@ -1,7 +1,7 @@
 -- Where a text ends.
 use Rattle.std.proofs.lemmas.Grind.{common_steps}
-use Rattle.std.proofs.Common.{◌≡◌, ℕ, ◌+◌, ◌<◌, ◌≢◌, true, false, List, ◌∷◌, drop, get_or, length, Option, Some, rules}
-use Rattle.std.proofs.Common.{option_map, refl, arith}
+use Rattle.std.proofs.Common.{◌≡◌, ℕ, ◌+◌, ◌<◌, ◌≢◌, true, false, List, ◌∷◌, drop, get_or, length, Option, Some, rules, option_map, refl}
+use Rattle.std.proofs.Common.{arith}
 use Rattle.std.proofs.lemmas.Bool.{ne_eqb, eq-eqb}
 use Rattle.std.proofs.lemmas.List.{drop_more, at_drop_more}
 use Rattle.pac_lex.specs.Bytes.{is_quote}
@@ -41,6 +41,3 @@ pub doubled-at : (bytes : List ℕ) (at : ℕ) → at + 1 < length bytes → get
     → closing_length bytes ≡ more at (closing_length (drop at bytes))
     → closing_length bytes ≡ more (at + 2) (closing_length (drop (at + 2) bytes))
 doubled-at bytes at lt e f so_far = grind (arith, closing-doubled, drop_more, eq-eqb, here, more-more, plus-two)
-
-begins-at : (bytes : List ℕ) (at : ℕ) → (at < length bytes → get_or bytes at 0 ≡ 39 → ⊥) → begins is_quote (drop at bytes) ≡ false
-begins-at bytes at ne = grind (arith, common_steps)

@@ -20,7 +20,7 @@ export class Refused extends Error {
     constructor(code: number);
 }
 
-/** A call of the module has ended in a trap: its board can't be used any more. */
+/** A call of the module has ended in a trap: its board can't be used any more, nor those beside it. */
 export class Trapped extends Error {
     constructor(cause: Error);
 }
@@ -40,15 +40,62 @@ export interface Ran {
     readonly samples: Int16Array;
 }
 
-/** A board with its ROM set. Each number is looked at before it is handed on: one that isn't whole or doesn't fit is a RangeError. */
+/** What was done until a time or an address: 'full' where no more samples had room, and then the next call goes on. */
+export interface Until extends Ran {
+    readonly why: 'time' | 'place' | 'stop' | 'full';
+}
+
+/** The registers by their names, T-states and steps since power-on among them. */
+export interface Registers {
+    readonly time: bigint;
+    readonly steps: bigint;
+    readonly pc: number;
+    readonly sp: number;
+    readonly ix: number;
+    readonly iy: number;
+    readonly a: number;
+    readonly f: number;
+    readonly b: number;
+    readonly c: number;
+    readonly d: number;
+    readonly e: number;
+    readonly h: number;
+    readonly l: number;
+    readonly alternateA: number;
+    readonly alternateF: number;
+    readonly alternateB: number;
+    readonly alternateC: number;
+    readonly alternateD: number;
+    readonly alternateE: number;
+    readonly alternateH: number;
+    readonly alternateL: number;
+    readonly i: number;
+    readonly r: number;
+    /** 0 to 2. */
+    readonly interruptMode: number;
+    readonly iff1: boolean;
+    readonly iff2: boolean;
+    readonly halted: boolean;
+    /** Whether the last step was EI, after which no interrupt is accepted. */
+    readonly afterEi: boolean;
+}
+
+/**
+ * A board with its ROM set. Each number is looked at before it is handed on: one that isn't whole or doesn't fit is a RangeError. Boards beside
+ * one another lie in the memory of one module, which has room for nine.
+ */
 export class Board {
     /** A board at power-on, of the bytes of pac_host.wasm and of a ROM block of 25,120 bytes. */
     static powerOn(module: BufferSource, roms: Uint8Array, switches?: number): Promise<Board>;
+    /** Another board at power-on beside this one, with its ROM block where none is given. */
+    beside(roms?: Uint8Array, switches?: number): Board;
+    /** Gives the board's memory back; each later use is refused with code 5. */
+    close(): void;
     /** Becomes a board at power-on, with another ROM block. */
     begin(roms: Uint8Array, switches?: number): void;
     /** Puts another ROM block into the sockets; the board stays as it is. */
     set sockets(roms: Uint8Array);
-    /** All of the board's state, 67,756 bytes: a snapshot, by which it also goes back. */
+    /** All of the board's state, 67,756 bytes: a snapshot, by which any board also goes back. */
     get block(): Uint8Array;
     set block(kept: Uint8Array);
     /** Does what the watchdog does. */
@@ -57,9 +104,18 @@ export class Board {
     hold(inputs: number): void;
     /** Lets so many microseconds go by, 100,000 at most. */
     run(microseconds: number): Ran;
-    /** The picture as it stands: red, green, blue and 255 for each pixel. The next call writes over it. */
+    /** Does exactly one step. What was asked in all stays, so `run` goes on from there to the time that it would have gone to. */
+    step(): Ran;
+    /**
+     * Goes on until so many T-states are over, the processor is before an address of a set, or the board stops, with one step at least where there
+     * is time. The set has a byte for each of the 65,536 addresses. What was asked in all stays, as with `step`.
+     */
+    until(ticks: number, places?: Uint8Array | null): Until;
+    /** The registers by their names. */
+    get registers(): Registers;
+    /** The picture as it stands: red, green, blue and 255 for each pixel. The next picture of a board of this module is written over it. */
     draw(): Uint8ClampedArray;
-    /** What the processor would read at so many addresses from one on. */
+    /** What the processor would read at so many addresses from one on, 65,536 at most. */
     peek(address: number, count: number): Uint8Array;
     /** The board's state file. */
     save(): Uint8Array;

@@ -6,6 +6,8 @@ export async function wrong(it: Board, assembler: Assembler): Promise<void> {
     it.run();
     it.sockets = [1, 2, 3];
     it.hold(INPUTS.P3_UP);
+    it.until(5n);
+    it.registers.pc = 5;
     it.draw().length = 5;
     const text: string = it.save();
     assembler.assemble(text);

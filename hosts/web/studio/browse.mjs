@@ -4,7 +4,7 @@ import { Browser } from '../browser.mjs';
 import { Firefox } from './firefox.mjs';
 
 const KEYS = {
-    ArrowLeft: 37, ArrowUp: 38, ArrowRight: 39, ArrowDown: 40, Digit1: 49, Digit5: 53, KeyP: 80, Comma: 188, Period: 190, F9: 120, F10: 121, Tab: 9,
+    ArrowLeft: 37, ArrowUp: 38, ArrowRight: 39, ArrowDown: 40, Digit1: 49, Digit5: 53, KeyP: 80, Comma: 188, Period: 190, F6: 117, F7: 118, F8: 119, F9: 120, F10: 121, Tab: 9,
         Escape: 27,
 };
 const LONGEST = 60; // seconds until the page has to be so far

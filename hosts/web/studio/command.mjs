@@ -197,7 +197,7 @@ export function film(board, masks, heard, seen) {
 
 // The report of a run.
 function reportOf(board, frames, { images, stop }) {
-    const { steps, ticks } = clocksOf(board.bytes('board'));
+    const { steps, ticks } = clocksOf(board);
     const end = stop === null ? 'end done' : stop.stop === 1 ? `stop S1 at ${hex(stop.pc)} bytes ${stop.bytes.map((byte) => hex(byte, 2)).join(' ')}`
         : `stop S2 at ${hex(stop.pc)} byte ${hex(stop.vector, 2)}`;
     return `frames ${images} of ${frames}\nsteps ${steps} ticks ${ticks}\n${end}\n`;

@@ -1,28 +1,29 @@
 // The transport under the picture: play and pause, frames and steps on and back, the slider over all that was played; and what the picture tells.
 
 import { counted, hex } from './bytes.js';
-import { backTo, onTo, stepBack, stepOn } from './look.js';
+import { backOut, backOver, backTo, onTo, stepBack, stepOn, stepOut, stepOver, Stops } from './look.js';
 import { at, icon, tell } from './parts.js';
 import { shownAt } from './pixel.js';
 import { HEIGHT, WIDTH } from '../board.js';
 
-const FAR = 36000; // frames in which a line is looked for
-const MODES = { live: 'Live', replay: 'Played again', demo: 'Demo · press a key to play', paused: 'Paused', stopped: 'Stopped',
-    busy: 'Playing it again', preview: 'Preview; replayed' };
+const FAR = 600; // frames after the last one that was played in which a place is looked for
+const MODES = { live: 'Live', replay: 'Played again', demo: 'Demo · press a key to play', paused: 'Paused', rested: 'At a breakpoint',
+    stopped: 'Stopped', busy: 'Playing it again', preview: 'Preview; replayed' };
 const SHORT = 30; // frames below which no progress is told
 const PREVIEW = 'The new code goes on from where the old one was a second or two ago. Meanwhile all is played again under it, and takes its place.';
 
 export class Deck {
     constructor(studio) {
         this.studio = studio;
-        for (const name of ['back-frame', 'back-step', 'on-step', 'on-frame', 'again', 'sound', 'turn', 'full']) icon(at(name), name);
+        for (const name of ['back-frame', 'back-step', 'on-step', 'over', 'out', 'on-frame', 'again', 'sound', 'turn', 'full']) icon(at(name), name);
         const clicks = {
             play: () => this.toggle(), 'back-frame': () => this.byFrames(-1), 'on-frame': () => this.byFrames(1),
                 'back-step': () => this.byStep(stepBack),
-            'on-step': () => this.byStep(stepOn), again: () => this.anew(), sound: () => this.mute(), turn: () => this.turn(),
+            'on-step': () => this.byStep(stepOn), over: ({ shiftKey }) => this.over(shiftKey), out: ({ shiftKey }) => this.out(shiftKey),
+            again: () => this.anew(), sound: () => this.mute(), turn: () => this.turn(),
                 full: () => this.full(),
         };
-        for (const [name, does] of Object.entries(clicks)) at(name).addEventListener('click', does);
+        for (const [name, does] of Object.entries(clicks)) at(name).addEventListener('click', (event) => does(event));
         at('moment').addEventListener('input', ({ target }) => this.slides(Number(target.value)));
         at('moment').addEventListener('change', () => this.slid());
         at('frame').addEventListener('pointerdown', (event) => this.points(event));
@@ -102,21 +103,53 @@ export class Deck {
         this.play();
     }
 
-    // Runs on, or back, to an address.
-    async runsTo(address, isBack) {
+    // Goes where the steps of a scout lead, which the run itself isn't moved by; where they lead nowhere, that is told.
+    async seeks(steps, missing) {
         this.pause();
-        const { session, studio } = this, { frame } = session.run, scout = session.scout('line');
-        const steps = isBack ? backTo(scout, address) : onTo(scout, address, session.tape.length > frame ? session.tape.length - frame + 600 : 600);
-        const isThere = await session.does(function* () { return yield* steps; });
-        if (isThere === undefined) return;
-        const name = studio.listing?.nameOf(address) ?? `${hex(address)}H`;
-        if (!isThere) {
-            tell('', isBack ? `The processor wasn't at ${name} before.` : `The processor doesn't come to ${name} within the next ten seconds.`);
-            return;
-        }
-        while (session.tape.length <= scout.frame) session.tape.add(0);
-        await session.go(scout.frame, scout.inside);
+        const { session } = this, scout = session.scout('line');
+        const isThere = await session.does(() => steps(scout));
+        if (isThere === undefined) return false;
+        if (isThere) session.takes(scout);
+        else tell('', missing);
         this.follows();
+        return isThere;
+    }
+
+    // The frames that are looked through ahead.
+    get ahead() {
+        const { run, tape } = this.session;
+        return Math.max(0, tape.length - run.frame) + FAR;
+    }
+
+    // Runs on, or back, to an address.
+    runsTo(address, isBack) {
+        const name = this.studio.listing?.nameOf(address) ?? `${hex(address)}H`, stops = new Stops([address]);
+        return this.seeks((scout) => (isBack ? backTo(scout, stops) : onTo(scout, stops, this.ahead)),
+            isBack ? `The processor wasn't at ${name} before.` : `The processor doesn't come to ${name} within the next ten seconds.`);
+    }
+
+    // Runs on, or back, to the next breakpoint.
+    async toStop(isBack) {
+        const { session } = this, { stops } = session;
+        if (!stops) tell('', 'There is no breakpoint.');
+        else if (await this.seeks((scout) => (isBack ? backTo(scout, stops) : onTo(scout, stops, this.ahead)),
+            isBack ? 'The processor wasn\'t at a breakpoint before.' : 'The processor comes to no breakpoint within the next ten seconds.')) {
+            session.rests();
+            this.show();
+        }
+    }
+
+    // Steps over a call, or back over one.
+    over(isBack) {
+        const { studio } = this, text = (address) => studio.textAt(address);
+        return this.seeks((scout) => (isBack ? backOver(scout, text) : stepOver(scout, text(scout.board.registers.pc), this.ahead)),
+            isBack ? 'There is nothing before this.' : 'That doesn\'t end within the next ten seconds.');
+    }
+
+    // Runs to the return from a routine, or back to its call.
+    out(isBack) {
+        return this.seeks((scout) => (isBack ? backOut(scout) : stepOut(scout, this.studio.returns, this.ahead)),
+            isBack ? 'No call of this was found in the two seconds before.' : 'This doesn\'t return within the next ten seconds.');
     }
 
     // ---- The slider
@@ -145,7 +178,8 @@ export class Deck {
         at('when').textContent = isInside ? `frame ${counted(frame)} + T ${counted(tick)}${line === null ? '' : ` · line ${line}`}`
             : `frame ${counted(frame)} of ${counted(tape.length)} · ${(frame * 0.0165).toFixed(1)} s`;
         slider.setAttribute('aria-valuetext', `frame ${frame} of ${tape.length}`);
-        const mode = run.stop ? 'stopped' : !studio.loop.isPlaying ? 'paused' : session.isDemo ? 'demo' : session.isReplay ? 'replay' : 'live';
+        const resting = session.isAtStop ? 'rested' : 'paused';
+        const mode = run.stop ? 'stopped' : !studio.loop.isPlaying ? resting : session.isDemo ? 'demo' : session.isReplay ? 'replay' : 'live';
         at('mode').dataset.mode = this.busy ? 'busy' : mode;
         at('mode').textContent = this.busy ?? MODES[mode];
         at('mode').title = session.isPreview ? PREVIEW : '';
@@ -217,8 +251,9 @@ export class Deck {
     // The keys of the studio itself; those of the board are the controls'.
     key(event) {
         const isInText = event.target.closest?.('textarea, input:not([type=range]), select') !== null, { key } = event;
-        const any = { F10: () => this.byStep(event.shiftKey ? stepBack : stepOn),
-            F9: () => this.studio.runsTo(this.studio.editor.line, event.shiftKey) };
+        const { editor } = this.studio, any = { F6: () => this.over(event.shiftKey), F7: () => this.out(event.shiftKey),
+            F8: () => (event.ctrlKey ? this.studio.picks(editor.line, false) : this.toStop(event.shiftKey)),
+            F9: () => this.studio.runsTo(editor.line, event.shiftKey), F10: () => this.byStep(event.shiftKey ? stepBack : stepOn) };
         const free = { p: () => this.toggle(), ',': () => this.byFrames(-1), '.': () => this.byFrames(1) };
         const does = any[key] ?? (event.ctrlKey && event.code === 'Space' ? () => this.toggle() : isInText || event.ctrlKey
             || event.metaKey ? undefined : free[key]);

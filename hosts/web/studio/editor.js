@@ -16,9 +16,19 @@ function element(name, className, text = '') {
     return made;
 }
 
+// How many lines of two texts are the same: from the first one on, and from the last one back.
+function alike(one, other) {
+    const most = Math.min(one.length, other.length);
+    let before = 0, after = 0;
+    while (before < most && one[before] === other[before]) before++;
+    while (after < most - before && one.at(-1 - after) === other.at(-1 - after)) after++;
+    return { before, after };
+}
+
 export class Editor {
-    // `changed` is called with each edit, `picked` with a line whose number is clicked on, and `stands` with the line of the caret.
-    constructor(root, changed, picked, stands) {
+    // `changed` is called with each edit, `picked` with a line whose number is clicked on and whether Shift is held, `stands` with the line of the
+    // caret, and `moved` with what tells of each line of the text before where it is now.
+    constructor(root, changed, picked, stands, moved) {
         this.area = root.querySelector('textarea');
         this.view = root.querySelector('.view');
         this.gutter = root.querySelector('.gutter');
@@ -28,7 +38,8 @@ export class Editor {
         this.fault = null; // the line that is refused
         this.others = new Set(); // lines that would be refused after it
         this.current = null; // the line that comes next
-        Object.assign(this, { changed, picked, stands, isDue: false, isStale: false });
+        this.stops = new Set(); // lines with a breakpoint
+        Object.assign(this, { changed, picked, stands, moved, isDue: false, isStale: false });
         this.area.addEventListener('input', () => this.edited());
         this.area.addEventListener('scroll', () => this.draw());
         this.area.addEventListener('keydown', (event) => this.key(event));
@@ -37,7 +48,7 @@ export class Editor {
             if (row) this.picked(Number(row.dataset.line), shiftKey);
         });
         this.gutter.addEventListener('wheel', (event) => this.area.scrollBy(0, event.deltaY), { passive: true });
-        document.addEventListener('selectionchange', () => this.moved());
+        document.addEventListener('selectionchange', () => this.caretMoved());
         new ResizeObserver(() => this.draw()).observe(this.area);
     }
 
@@ -55,11 +66,12 @@ export class Editor {
 
     // Takes another text of the same source; place and caret stay where they are.
     replace(text) {
-        const { scrollTop, scrollLeft, selectionStart } = this.area;
+        const { scrollTop, scrollLeft, selectionStart } = this.area, before = this.lines;
         this.area.value = text;
         this.area.setSelectionRange(selectionStart, selectionStart);
         Object.assign(this.area, { scrollTop, scrollLeft });
         this.read();
+        this.moved(this.wayFrom(before));
     }
 
     // Reads what stands there.
@@ -71,8 +83,19 @@ export class Editor {
     }
 
     edited() {
+        const before = this.lines;
         this.read();
+        this.moved(this.wayFrom(before));
         this.changed();
+    }
+
+    // Where each line of another text is now; nothing where it's gone.
+    wayFrom(old) {
+        const { lines } = this, { before, after } = alike(lines, old);
+        return (line) => {
+            if (line > before && line > old.length - after) return line + lines.length - old.length;
+            return line <= Math.max(before, lines.length - after) ? line : null;
+        };
     }
 
     // A tab fills up to the next column of eight; after Escape it leaves, as everywhere on a page.
@@ -102,11 +125,7 @@ export class Editor {
 
     // How many lines, from the first one on and from the last one back, are those of the last listing.
     compare() {
-        const { lines, listed } = this, most = Math.min(lines.length, listed.length);
-        let before = 0, after = 0;
-        while (before < most && lines[before] === listed[before]) before++;
-        while (after < most - before && lines.at(-1 - after) === listed.at(-1 - after)) after++;
-        Object.assign(this, { before, after });
+        Object.assign(this, alike(this.lines, this.listed));
     }
 
     // What the last listing says of a line that stands here now; nothing of a line that is new.
@@ -120,6 +139,12 @@ export class Editor {
     at(line, isShown = false) {
         this.current = line;
         if (isShown && line) this.show(line);
+        this.draw();
+    }
+
+    // Marks lines with a breakpoint.
+    stopsAt(lines) {
+        this.stops = new Set(lines);
         this.draw();
     }
 
@@ -138,7 +163,7 @@ export class Editor {
     }
 
     // Tells in which line the caret is.
-    moved() {
+    caretMoved() {
         if (document.activeElement === this.area) this.stands(this.line);
     }
 
@@ -192,6 +217,7 @@ export class Editor {
         row.dataset.line = line;
         row.classList.toggle('fault', line === this.fault || this.others.has(line));
         row.classList.toggle('current', line === this.current);
+        row.classList.toggle('stop', this.stops.has(line));
         row.classList.toggle('stale', this.isStale);
         row.append(element('b', 'number', String(line)), element('span', 'address', found ? hex(found.address) : ''),
             element('span', 'ticks', found?.ticks ?? ''));

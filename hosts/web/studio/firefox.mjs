@@ -9,7 +9,7 @@ import { Browser } from '../browser.mjs';
 
 const LONGEST = 60; // seconds until it answers
 const SCRIPT = 60_000; // milliseconds that an expression may take
-const KEYS = { ArrowLeft: '\uE012', ArrowUp: '\uE013', ArrowRight: '\uE014', ArrowDown: '\uE015', F9: '\uE039', F10: '\uE03A', Tab: '\uE004',
+const KEYS = { ArrowLeft: '\uE012', ArrowUp: '\uE013', ArrowRight: '\uE014', ArrowDown: '\uE015', F6: '\uE036', F7: '\uE037', F8: '\uE038', F9: '\uE039', F10: '\uE03A', Tab: '\uE004',
     Escape: '\uE00C', Digit1: '1', Digit5: '5', KeyP: 'p', Comma: ',', Period: '.' };
 const SHIFT = '\uE008', CONTROL = '\uE009';
 const HELD = [[8, SHIFT], [2, CONTROL]]; // the bits that say what is held with a key

@@ -46,9 +46,8 @@ export class MemoryPane {
 
     // Goes to an address or a name.
     find(text) {
-        const named = this.studio.listing?.symbols.get(text), digits = /^(?:0?)([0-9A-Fa-f]{1,4})H?$/.exec(text);
-        const address = named ?? (digits ? parseInt(digits[1], 16) : null);
-        if (address === null || address < 0 || address > 0xffff) this.told.textContent = `${text}: no address and no name`;
+        const address = this.studio.addressIn(text);
+        if (address === null) this.told.textContent = `${text}: no address and no name`;
         else this.at(address);
     }
 

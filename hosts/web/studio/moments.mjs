@@ -4,7 +4,7 @@ import { writeFileSync } from 'node:fs';
 import path from 'node:path';
 import { Board, FRAME_MICROSECONDS } from '../board.js';
 import { equal } from './bytes.js';
-import { backTo, onTo, pcOf, stepBack, stepOn } from './look.js';
+import { backTo, onTo, pcOf, stepBack, stepOn, Stops } from './look.js';
 import { shownAt } from './pixel.js';
 import { beside, clocksOf, Run } from './run.js';
 import { palettesOf, SHEETS, spritesOf, tilesOf } from './sheets.js';
@@ -33,7 +33,7 @@ function first(run, address, count, isWanted = ({ isWrite }) => isWrite) {
 }
 
 const place = (run) => {
-    const { steps, ticks } = clocksOf(run.board.bytes('board'));
+    const { steps, ticks } = clocksOf(run.board);
     return `${steps} ${ticks} ${pcOf(run).toString(16).toUpperCase().padStart(4, '0')}`;
 };
 
@@ -51,7 +51,7 @@ export async function moments(files, assembler, { example, pacboard, at, row, RO
     const told = pacboard(...words, '--commands', at('look.commands'), '--frames', '/dev/null', '--wave', '/dev/null', '--listing',
         '/dev/null').stdout.toString();
     const wanted = told.split('\n').filter((line) => /^(frame|step|break|back) /.test(line)).map((line) => line.split(' ').slice(1, 4).join(' '));
-    const does = [() => run.go(18), () => run.go(19), () => stepOn(run), () => end(onTo(run, 0x117, 2)), () => (stepOn(run), stepOn(run)),
+    const does = [() => run.go(18), () => run.go(19), () => stepOn(run), () => end(onTo(run, new Stops([0x117]), 2)), () => (stepOn(run), stepOn(run)),
         () => stepBack(run)];
     const places = does.map((one) => (one(), place(run)));
     row('steps, and the way to an address, are those of pacboard debug', wanted.length === 6 && places.join() === wanted.join(),
@@ -62,19 +62,19 @@ export async function moments(files, assembler, { example, pacboard, at, row, RO
     run.go(600);
     run.go(300);
     row('a moment that is left and come back to is the same', equal(run.board.block, kept));
-    const mid = run.go(299, 7777).board.block;
+    const mid = run.go(299, 23890).board.block;
     run.go(300);
-    row('and so is one between', equal(run.board.block, kept) && equal(run.go(299, 7777).board.block, mid));
+    row('and so is one between', equal(run.board.block, kept) && equal(run.go(299, 23890).board.block, mid));
 
     // each step of two frames by itself, with what it writes
     const addresses = [0x4c00, 0x4c02, 0x4c30, 0x4fe5, 0x5061, 0x5051, 0x4ff0, 0x43c2];
     const written = new Map(addresses.map((address) => [address, []])), passed = [];
     run.go(20);
     while (run.frame < 22) {
-        const before = run.board.bytes('board').slice(0, 3300), { steps } = clocksOf(before);
+        const before = run.board.block, { steps } = clocksOf(run.board);
         passed.push([pcOf(run), steps]);
         stepOn(run);
-        const after = run.board.bytes('board');
+        const after = run.board.block;
         for (const address of addresses) if (before[placeOf(address)] !== after[placeOf(address)]) written.get(address).push(steps);
     }
     run.go(22);
@@ -96,14 +96,14 @@ export async function moments(files, assembler, { example, pacboard, at, row, RO
     row('and who read the byte that it copies', reads.some(({ pc, steps }) => pc === 0x117 && steps === 196647));
 
     for (const address of [0x0117, 0x0102, 0x0000]) {
-        run.go(20);
+        const stops = new Stops([address]), first = clocksOf(run.go(20).board).steps;
         const all = passed.filter(([pc]) => pc === address).map(([, steps]) => steps), found = [];
-        while (end(onTo(run, address, 3)) && run.frame < 22) found.push(clocksOf(run.board.bytes('board')).steps);
-        row(`each time that the processor comes to ${address.toString(16)}`, found.join() === all.filter((steps) =>
-            steps > clocksOf(run.go(20).board.bytes('board')).steps).join(), `${found.length} ${all.length}`);
+        while (end(onTo(run, stops, 3)) && run.frame < 22) found.push(clocksOf(run.board).steps);
+        row(`each time that the processor comes to ${address.toString(16)}`, found.join() === all.filter((steps) => steps > first).join(),
+            `${found.length} ${all.length}`);
         const back = [];
         run.go(22);
-        while (end(backTo(run, address)) && run.frame >= 20) back.push(clocksOf(run.board.bytes('board')).steps);
+        while (end(backTo(run, stops)) && run.frame >= 20) back.push(clocksOf(run.board).steps);
         row('and back, the last first', back.reverse().join() === all.join(), `${back.length} ${all.length}`);
     }
 

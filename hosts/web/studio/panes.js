@@ -5,14 +5,16 @@ import { at, made } from './parts.js';
 import { PicturesPane } from './pictures.js';
 import { ProcessorPane } from './processor.js';
 import { VoicesPane } from './sounds.js';
+import { StopsPane } from './stops.js';
 import { TouchesPane } from './touches.js';
 
 const KEYS = [
     ['Arrows', 'joystick of player 1; R D F G that of player 2'], ['1 2', 'start buttons'], ['5 6 7', 'coins, and a credit'],
         ['P', 'play or pause; Ctrl Space everywhere'],
-    [', .', 'a frame back, a frame on'], ['F10', 'a step on; with Shift a step back'],
-        ['F9', 'run to the line with the caret; with Shift back to it'],
-    ['Click', 'on a line\'s number: run to it, with Shift back to it; on the paused picture: what shows there; on a byte: who wrote it'],
+    [', .', 'a frame back, a frame on'], ['F10', 'a step on; here and below, with Shift the same way back'],
+        ['F6', 'over a call'], ['F7', 'out of a routine, to its return'], ['F8', 'to the next breakpoint; Ctrl F8 sets one at the caret'],
+        ['F9', 'to the line with the caret'],
+    ['Click', 'on a line\'s number: a breakpoint, with Shift run to it; on the paused picture: what shows there; on a byte: who wrote it'],
         ['Esc Tab', 'out of the editor'],
 ];
 const WORDS = 'A page can look in but promise nothing: the board and the assembler inside are proved, and what is around them is tested.';
@@ -34,7 +36,8 @@ export class Panes {
         this.all = {
             processor: new ProcessorPane(root('processor'), studio), memory: new MemoryPane(root('memory'), studio),
                 pictures: new PicturesPane(root('pictures'), studio),
-            voices: new VoicesPane(root('voices'), studio), who: new TouchesPane(root('who'), studio), help: new HelpPane(root('help')),
+            voices: new VoicesPane(root('voices'), studio), who: new TouchesPane(root('who'), studio), stops: new StopsPane(root('stops'), studio),
+                help: new HelpPane(root('help')),
         };
         this.studio = studio;
         this.tabs = [...document.querySelectorAll('[data-tab]')];

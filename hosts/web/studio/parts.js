@@ -5,6 +5,7 @@ import { hex } from './bytes.js';
 const DRAWN = {
     play: 'M7 4.5v11l9-5.5z|solid', pause: 'M6 4.5v11M13.5 4.5v11', 'on-frame': 'M5 5v10l7-5zM15 5v10', 'back-frame': 'M15 5v10l-7-5zM5 5v10',
     'on-step': 'M4 13a6 6 0 0 1 11-3.4M15.6 5.4V10H11', 'back-step': 'M16 13a6 6 0 0 0-11-3.4M4.4 5.4V10H9',
+    over: 'M3.5 10a6.8 6 0 0 1 12.6-1M16.6 4.6V9.2H12M9 15.5h2', out: 'M10 13V4M6 8l4-4 4 4M4 16.5h12',
     again: 'M5 10a5.5 5.5 0 1 0 2-4.3M7 2.6v3.6h3.6', sound: 'M4 8v4h3l4 3.4V4.6L7 8zM13.5 7.5a4 4 0 0 1 0 5M15.6 5.2a7 7 0 0 1 0 9.6',
     quiet: 'M4 8v4h3l4 3.4V4.6L7 8zM14 8l4 4M18 8l-4 4', turn: 'M4 9a7 7 0 0 1 12-2.6M16.4 3v4h-4M5 12h10v5H5z',
         full: 'M4 8V4h4M12 4h4v4M16 12v4h-4M8 16H4v-4',

@@ -22,6 +22,8 @@ const PICTURES = {
     pictures: ['studio.deck.tellPixel(174, 152)', RIGHT],
     voices: ["studio.panes.open('voices')", DOWN],
     who: ['studio.asks(0x5061)', DOWN],
+    stops: [`studio.visits(20, 0), studio.panes.open('stops'), ['161', '165'].forEach((line) => studio.picks(Number(line), false)),
+        (document.querySelector('.stops input').value = 'BC = 10H'), studio.panes.all.stops.renew(), studio.deck.toStop(false)`, null],
 };
 
 async function main() {

@@ -1,30 +1,29 @@
 // What shows at a pixel: asked of the board, by changing what might, and looking whether the pixel changes.
 
-import { FRAME_MICROSECONDS, WIDTH } from '../board.js';
+import { WIDTH } from '../board.js';
 import { LINE_TICKS } from './run.js';
 import { PLACES } from './tables.js';
 
 const LOOKUP = 16384 + 4096 + 4096 + 32; // where a ROM block has its palettes
 const PALETTES = 32, SPRITES = 8, CELLS = 1024;
-const BEFORE = 8, AFTER = 20; // microseconds around the moment at which a line is drawn
+const BEFORE = 60, AFTER = 100; // T-states: from before the moment at which a line is drawn to after it
 const ONE = 1, OTHER = 2; // colour numbers
 const SHAPES = PLACES.AT_WORK_RAM + 0x3f0;
 
 // Goes to the moment before the line with this pixel was drawn, for the picture that a run shows.
 function goBefore(run, y) {
-    const micro = Math.floor(LINE_TICKS * (41 + y) / (3.072)) - BEFORE;
-    const isOfThis = run.inside > micro + AFTER;
+    const tick = LINE_TICKS * (41 + y) - BEFORE, isOfThis = run.inside > tick + AFTER;
     if (!isOfThis && run.frame === 0) return false;
-    run.go(isOfThis ? run.frame : run.frame - 1, micro);
+    run.go(isOfThis ? run.frame : run.frame - 1, tick);
     return run.canGo;
 }
 
 // The colour number of a pixel that comes of a block with this ROM block.
 function pixelAfter(run, block, roms, at) {
-    run.board.block = block;
     run.board.sockets = roms;
-    run.board.run(Math.min(AFTER, FRAME_MICROSECONDS));
-    return run.board.bytes('board')[PLACES.AT_PICTURE + at];
+    run.board.block = block;
+    run.board.until(AFTER);
+    return run.board.block[PLACES.AT_PICTURE + at];
 }
 
 // A ROM block whose palettes are made anew: each colour number by its palette's number, its own place in it, and the one that was there.

@@ -2,27 +2,25 @@
 
 import { hex } from './bytes.js';
 import { made } from './parts.js';
-import { numberIn } from './run.js';
 import { PLACES } from './tables.js';
 import { ticksOf } from './listing.js';
 
 const PAIRS = [
-    ['AF', 'AT_A', 'AT_F'], ['BC', 'AT_B', 'AT_C'], ['DE', 'AT_D', 'AT_E'], ['HL', 'AT_H', 'AT_L'], ['IX', 'AT_IX'], ['IY', 'AT_IY'], ['SP', 'AT_SP'],
-    ['PC', 'AT_PC'], ["AF'", 'AT_ALTERNATE_A', 'AT_ALTERNATE_F'], ["BC'", 'AT_ALTERNATE_B', 'AT_ALTERNATE_C'],
-    ["DE'", 'AT_ALTERNATE_D', 'AT_ALTERNATE_E'], ["HL'", 'AT_ALTERNATE_H', 'AT_ALTERNATE_L'],
+    ['AF', 'a', 'f'], ['BC', 'b', 'c'], ['DE', 'd', 'e'], ['HL', 'h', 'l'], ['IX', 'ix'], ['IY', 'iy'], ['SP', 'sp'], ['PC', 'pc'],
+    ["AF'", 'alternateA', 'alternateF'], ["BC'", 'alternateB', 'alternateC'], ["DE'", 'alternateD', 'alternateE'],
+    ["HL'", 'alternateH', 'alternateL'],
 ];
 const FLAGS = [[7, 'S', 'sign'], [6, 'Z', 'zero'], [4, 'H', 'half carry'], [2, 'P/V', 'parity or overflow'], [1, 'N', 'subtract'], [0, 'C', 'carry']];
 const ROWS = 24; // instructions
 
-// The registers of a block by their names.
-export function registersOf(block) {
-    const values = PAIRS.map(([name, high, low]) => [name, low ? 256 * block[PLACES[high]] + block[PLACES[low]] : numberIn(block, PLACES[high])]);
-    const flags = block[PLACES.AT_FLAGS];
-    return {
-        ...Object.fromEntries(values), I: block[PLACES.AT_I], R: block[PLACES.AT_R], IM: block[PLACES.AT_INTERRUPT_MODE],
-        isHalted: (flags & PLACES.HALTED) !== 0, iff: flags & PLACES.IFF1 ? 1 : 0, vector: block[PLACES.AT_VECTOR],
-        latch: block[PLACES.AT_LATCH], request: block[PLACES.AT_REQUEST], watchdog: block[PLACES.AT_WATCHDOG],
-    };
+const SINGLE = [...'ABCDEFHL'];
+export const NAMES = [...PAIRS.map(([name]) => name), ...SINGLE, 'I', 'R', 'IM', 'IFF'];
+
+// The registers of a board by the names that programs have for them: pairs, and single ones.
+export function registersOf({ registers: it }) {
+    const pairs = PAIRS.map(([name, high, low]) => [name, low ? 256 * it[high] + it[low] : it[high]]);
+    const single = Object.fromEntries(SINGLE.map((name) => [name, it[name.toLowerCase()]]));
+    return { ...Object.fromEntries(pairs), ...single, I: it.i, R: it.r, IM: it.interruptMode, IFF: it.iff1 ? 1 : 0, isHalted: it.halted };
 }
 
 // A list of registers, those marked that have changed.
@@ -38,23 +36,23 @@ export class ProcessorPane {
     }
 
     show(block) {
-        const registers = registersOf(block), { PC: pc, iff, IM } = registers;
+        const registers = registersOf(this.studio.session.run.board), { PC: pc, IFF: iff, IM } = registers;
         const values = [
             ...PAIRS.map(([name]) => [name, hex(registers[name])]), ['I', hex(registers.I, 2)], ['R', hex(registers.R, 2)], ['IM', String(IM)],
                 ['IFF', String(iff)],
-            ['vector', hex(registers.vector, 2)], ['blanks', String(registers.watchdog)],
+            ['vector', hex(block[PLACES.AT_VECTOR], 2)], ['blanks', String(block[PLACES.AT_WATCHDOG])],
         ];
         const texts = Object.fromEntries(values), place = this.studio.moment;
         if (this.shown && this.shown.place !== place) this.before = this.shown.texts;
         this.shown = { place, texts };
-        const f = block[PLACES.AT_F];
+        const { F: f } = registers;
         this.root.replaceChildren(
             registerList(values, this.before),
             made('div', { className: 'flags' }, ...FLAGS.map(([bit, name, title]) => made('span', { className: f >> bit & 1 ? 'set' : '', title },
                 name)),
                 ...['interrupts', 'sound', '', 'flip'].map((name, bit) => (name ? made('span',
-                    { className: registers.latch >> bit & 1 ? 'set' : '', title: `what 500${bit}H keeps` }, name) : null)),
-                made('span', { className: registers.request ? 'set' : '', title: "the blank's request" }, 'request'),
+                    { className: block[PLACES.AT_LATCH] >> bit & 1 ? 'set' : '', title: `what 500${bit}H keeps` }, name) : null)),
+                made('span', { className: block[PLACES.AT_REQUEST] ? 'set' : '', title: "the blank's request" }, 'request'),
                 made('span', { className: registers.isHalted ? 'set' : '' }, 'halted')),
             made('h2', {}, 'What comes next'),
             made('div', { className: 'rows' }, ...this.instructions(block, pc, registers.isHalted)),

@@ -91,6 +91,17 @@ function expression(found) {
     return tree;
 }
 
+// The tree of a text that is an expression and nothing else; nothing of another one.
+export function expressionOf(text) {
+    const { tokens, rest } = scanned(text);
+    try {
+        return rest === '' ? expression(tokens) : null;
+    } catch (error) {
+        if (error instanceof Refusal) return null;
+        throw error;
+    }
+}
+
 // The names in a tree.
 export function namesOf(tree) {
     return tree[0] === 'name' ? [tree[1]] : tree.slice(1).filter(Array.isArray).flatMap(namesOf);

@@ -1,6 +1,7 @@
 // A run: a board that plays a tape, with a snapshot each second, so that each moment is one short play away.
 //
-// A moment is a frame and the microseconds of it that have gone by. Time counts from the run's beginning, a power-on or a state that was read.
+// A moment is a frame and the T-states of it that have gone by, at the end of a step. Frames count from the run's beginning, a power-on or a state
+// that was read. Within a frame the board is asked for no time, which its end is: so a moment's block hangs on no way to it.
 
 import { FRAME_MICROSECONDS, HEIGHT } from '../board.js';
 import { PLACES } from './tables.js';
@@ -10,15 +11,21 @@ export const FRAME_TICKS = 50688, LINE_TICKS = 192;
 const FIRST_LINE = 41; // of a frame's 264: the one before it is the last that isn't seen
 
 // A number of a block, its low byte first.
-export function numberIn(block, at, size = 2) {
+function numberIn(block, at, size) {
     let value = 0;
     for (let byte = size - 1; byte >= 0; byte--) value = value * 256 + block[at + byte];
     return value;
 }
 
-// The clocks of a block: T-states, steps and microseconds asked.
-export function clocksOf(block) {
-    return { ticks: numberIn(block, PLACES.AT_TIME, 8), steps: numberIn(block, PLACES.AT_STEPS, 8), asked: numberIn(block, PLACES.AT_ASKED, 8) };
+// The T-states in microseconds.
+function ticksIn(microseconds) {
+    return Math.floor(microseconds / 125) * 384 + Math.floor(microseconds % 125 * 384 / 125);
+}
+
+// The clocks of a board: its T-states and steps since power-on.
+export function clocksOf(board) {
+    const { time, steps } = board.registers;
+    return { ticks: Number(time), steps: Number(steps) };
 }
 
 // Where in a frame a time is: the T-state since the blank, and the line of the picture that is drawn then, if one is.
@@ -33,10 +40,11 @@ export class Run {
         board.begin(roms);
         if (start) board.block = start;
         this.snapshots = [board.block];
-        this.origin = clocksOf(this.snapshots[0]).asked;
+        this.origin = numberIn(this.snapshots[0], PLACES.AT_ASKED, 8);
         this.frame = 0;
         this.inside = 0;
         this.stop = null;
+        this.near = null; // the last frame that was gone into: its block at the beginning
     }
 
     // The block that it began with.
@@ -49,39 +57,69 @@ export class Run {
         return this.stop === null;
     }
 
-    // Runs to the end of this frame, with what the tape has: the samples.
+    // Holds what the tape has for this frame, where it begins.
+    begins() {
+        if (this.inside > 0) return;
+        if (this.frame === this.snapshots.length * STRIDE) this.snapshots.push(this.board.block);
+        this.board.hold(this.tape.at(this.frame));
+    }
+
+    // Runs to the end of this frame: the samples.
     next() {
-        const samples = this.part(FRAME_MICROSECONDS - this.inside);
-        if (this.canGo) {
+        this.begins();
+        const { samples, ticks, stop, pc } = this.board.run(FRAME_MICROSECONDS);
+        if (stop !== 0) {
+            this.stop = { stop, pc };
+            this.inside += Number(ticks);
+        } else {
             this.frame++;
             this.inside = 0;
         }
         return samples;
     }
 
-    // Lets microseconds of this frame go by: the samples.
-    part(microseconds) {
-        if (this.inside === 0) {
-            if (this.frame === this.snapshots.length * STRIDE) this.snapshots.push(this.board.block);
-            this.board.hold(this.tape.at(this.frame));
-        }
-        const { samples, stop, pc } = this.board.run(microseconds);
-        this.inside += microseconds;
-        if (stop !== 0) this.stop = { stop, pc };
-        return samples;
+    // Goes on within this frame, so many T-states at most, until the processor is before an address of a set: what was done. At the frame's end
+    // the next one begins.
+    part(ticks, places = null) {
+        this.begins();
+        const left = ticksIn(this.origin + FRAME_MICROSECONDS * (this.frame + 1)) - clocksOf(this.board).ticks;
+        const ran = left > 0 ? this.board.until(Math.min(ticks, left), places) : { ticks: 0, stop: 0, why: 'time', samples: [] };
+        this.inside += Number(ran.ticks);
+        if (ran.stop !== 0) this.stop = { stop: ran.stop, pc: ran.pc };
+        else if (ran.ticks >= left) this.next();
+        return ran;
+    }
+
+    // Goes on by a step.
+    step() {
+        this.enters();
+        this.part(1);
+    }
+
+    // Keeps where this frame begins, so that its moments are near.
+    enters() {
+        if (this.inside === 0) this.near = { frame: this.frame, block: this.board.block };
+    }
+
+    // Goes to the moment of another run, which is this one on another board and went on from it.
+    takes({ board, frame, inside, stop, snapshots, near }) {
+        this.board.block = board.block;
+        Object.assign(this, { frame, inside, stop, snapshots: snapshots.slice(), near });
     }
 
     // Forgets what comes after a frame's beginning, since what is held from there on has changed.
     forget(frame) {
         this.snapshots.length = Math.min(this.snapshots.length, Math.floor(frame / STRIDE) + 1);
+        if (this.near?.frame > frame) this.near = null;
         if (this.frame > frame || this.frame === frame && this.inside > 0) this.restore(frame);
     }
 
     // Goes back to the last snapshot that is no later than a frame.
     restore(frame) {
         const at = Math.min(Math.floor(frame / STRIDE), this.snapshots.length - 1);
-        this.board.block = this.snapshots[at];
-        this.frame = at * STRIDE;
+        const isNear = this.near?.frame > at * STRIDE && this.near.frame <= frame;
+        this.board.block = isNear ? this.near.block : this.snapshots[at];
+        this.frame = isNear ? this.near.frame : at * STRIDE;
         this.inside = 0;
         this.stop = null;
     }
@@ -100,7 +138,9 @@ export class Run {
             this.next();
             yield this.frame;
         }
-        if (this.canGo && inside > this.inside) this.part(inside - this.inside);
+        if (!this.canGo || inside <= this.inside) return this;
+        this.enters();
+        this.part(inside - this.inside);
         return this;
     }
 
@@ -118,10 +158,12 @@ export class Preview extends Run {
         return Math.max(0, frame - STRIDE);
     }
 
+    enters() {}
+
     // Its own moments take the place of the run's.
     next() {
         const samples = super.next();
-        if (this.canGo && this.frame % STRIDE === 0) this.snapshots[this.frame / STRIDE] = this.board.block;
+        if (this.canGo && this.frame % STRIDE === 0 && this.inside === 0) this.snapshots[this.frame / STRIDE] = this.board.block;
         return samples;
     }
 }
@@ -129,14 +171,14 @@ export class Preview extends Run {
 // The snapshots of a run on another board, under its ROM block or another one.
 function copied(run, kind, board, roms) {
     board.begin(roms);
-    return Object.assign(Object.create(kind), run, { board, roms, snapshots: run.snapshots.slice() });
+    return Object.assign(Object.create(kind), run, { board, roms, snapshots: run.snapshots.slice(), near: null });
 }
 
 // The run once more, on another board and at the same moment: it goes where that one doesn't.
 export function beside(run, board) {
     const other = copied(run, Object.getPrototypeOf(run), board, run.roms);
-    other.restore(run.frame);
-    return other.go(run.frame, run.inside);
+    board.block = run.board.block;
+    return other;
 }
 
 // A preview of a run under another ROM block, at the same moment.

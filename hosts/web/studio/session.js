@@ -2,6 +2,7 @@
 
 import { Board, FRAME_SAMPLES } from '../board.js';
 import { breath, equal, sliced } from './bytes.js';
+import { goesTo } from './look.js';
 import { beside, previewOf, Run } from './run.js';
 import { LONGEST, Tape } from './tape.js';
 
@@ -22,6 +23,8 @@ export class Session {
         this.whole = null; // the run before it, while a preview is shown in its place
         this.wasRight = null; // whether the last preview was what all of it came to; nothing where none was shown
         this.isBusy = false;
+        this.stops = null; // where the run rests; nothing where nowhere
+        this.rested = null; // the last moment at which it did
     }
 
     // The ROM block of the last program, under which all is played or will be.
@@ -53,15 +56,42 @@ export class Session {
         this.told();
     }
 
-    // Runs a frame: the samples; nothing where the run can't go on.
+    // Runs to the end of a frame: the samples; nothing where the run can't go on, or rests at a stop.
     advance() {
         const { run, tape } = this;
         if (this.isDemo && run.frame >= tape.length) run.go(0);
         if (!run.canGo || run.frame >= LONGEST) return null;
         if (run.frame >= tape.length) tape.add(this.controls.held);
-        const samples = run.next();
+        const samples = this.stops ? this.toStop() : run.next();
         if (!run.canGo) this.told();
         return run.canGo ? samples : null;
+    }
+
+    // Runs to the end of a frame: the samples; nothing where it comes to a stop before.
+    toStop() {
+        const { run } = this, pieces = [];
+        if (goesTo(run, this.stops, (samples) => pieces.push(samples))) {
+            this.rests();
+            return null;
+        }
+        return pieces.length === 1 ? pieces[0] : Int16Array.from(pieces.flatMap((some) => [...some]));
+    }
+
+    // Keeps this moment as one at a stop.
+    rests() {
+        this.rested = { frame: this.run.frame, inside: this.run.inside };
+    }
+
+    // Whether the run rests at a stop.
+    get isAtStop() {
+        return this.rested?.frame === this.run.frame && this.rested.inside === this.run.inside;
+    }
+
+    // Goes to where a scout has gone to.
+    takes(scout) {
+        this.run.takes(scout);
+        while (this.tape.length < scout.frame + (scout.inside > 0 ? 1 : 0)) this.tape.add(0);
+        this.told();
     }
 
     // Somebody has pressed or let go: from here on the tape has what they hold.
@@ -101,7 +131,7 @@ export class Session {
                 progress(at, frame);
                 yield at;
             }
-            if (!run.canGo || run.frame === this.run.frame && run.inside === this.run.inside) return run;
+            if (!run.canGo || frame === this.run.frame && inside === this.run.inside) return run;
             yield frame;
         }
     }

@@ -82,7 +82,7 @@ export async function sessions(files, assembler, { example, row }) {
         session.begin(romsOf(source), masks);
         await session.go(frame, inside);
     };
-    const isAt = (stars, frame, inside = 0, held = masks) => session.run.frame === frame && session.run.inside === inside
+    const isAt = (stars, frame, inside = 0, held = masks) => session.run.frame === frame && session.run.inside >= inside
         && equal(session.run.board.block, direct(board, variant(stars), held, frame, inside));
 
     await begin(LONG);

@@ -21,7 +21,9 @@ export function waiting(roms) {
 // The picture of a board whose RAM somebody has filled.
 function drawn(board, roms, fill) {
     board.begin(roms);
-    fill(board.bytes('board'));
+    const { block } = board;
+    fill(block);
+    board.block = block;
     board.run(FRAME_MICROSECONDS);
     return board.draw();
 }

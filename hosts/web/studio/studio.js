@@ -41,7 +41,8 @@ class Studio {
         this.speaker = new Speaker(textOf(files['sound.js']));
         this.session = new Session(module, this.romsOf(files['starfall.rom']), this.controls, () => this.told());
         this.loop = new Loop({ advance: () => this.advance(), show: () => this.show() }, this.speaker, this.controls);
-        this.editor = new Editor(at('source'), () => this.typed(), (line, isBack) => this.runsTo(line, isBack), (line) => this.stands(line));
+        this.editor = new Editor(at('source'), () => this.typed(), (line, isRun) => this.picks(line, isRun), (line) => this.stands(line),
+            (lineOf) => this.panes.all.stops.follows(lineOf));
         this.deck = new Deck(this);
         this.entries = new Entries(this);
         this.exits = new Exits(this);
@@ -72,8 +73,10 @@ class Studio {
 
     advance() {
         const samples = this.session.advance();
-        if (samples === null) this.deck.pause();
-        return samples;
+        if (samples !== null) return samples;
+        this.deck.pause();
+        if (this.session.isAtStop) this.deck.follows();
+        return null;
     }
 
     show() {
@@ -86,7 +89,7 @@ class Studio {
 
     // Shows what is looked at.
     look() {
-        this.panes.show(this.session.run.board.bytes('board'));
+        this.panes.show(this.session.run.board.block);
     }
 
     // Something has changed: all is shown anew.
@@ -94,7 +97,7 @@ class Studio {
         if (!this.deck) return;
         this.show();
         const { run } = this.session, { listing } = this;
-        const pc = run.board.bytes('board')[PLACES.AT_PC] + 256 * run.board.bytes('board')[PLACES.AT_PC + 1];
+        const { pc } = run.board.registers;
         this.editor.at(this.loop.isPlaying ? null : listing?.lineAt.get(pc) ?? null, !this.loop.isPlaying && this.follows_pc);
         this.deck.stopped(run.stop, listing);
     }
@@ -128,6 +131,7 @@ class Studio {
         this.listing = new Listing(textOf(listing), this.editor.lines);
         this.listingText = listing;
         this.editor.say(this.listing);
+        this.panes.all.stops.renew();
         at('problem').hidden = true;
         const told = `${counted(this.listing.size)} of 16,384 bytes, assembled in ${milliseconds.toFixed(1)} ms`;
         at('assembled').textContent = told;
@@ -209,6 +213,7 @@ class Studio {
         this.isChanged = false;
         this.whole = null;
         this.editor.text = text;
+        this.panes.all.stops.clear();
         const made_ = rom ? { rom } : this.assembler.isThere ? this.assembler.assemble(bytesOf(text)) : { rom: new Uint8Array(PROGRAM) };
         if (made_.rom) this.session.begin(this.romsOf(made_.rom), masks, { isDemo });
         else this.session.begin(this.session.roms, masks, { isDemo });
@@ -246,14 +251,50 @@ class Studio {
 
     // Runs to a line of the source: on, or back where one wants so.
     async runsTo(line, isBack = false) {
-        const row = this.listing?.lines[line] ?? this.listing?.lines.slice(line).find(Boolean);
-        if (!row) tell('', 'No line from there on has bytes.');
-        else await this.deck.runsTo(row.address, isBack);
+        const address = this.addressOf(line);
+        if (address === null) tell('', 'No line from there on has bytes.');
+        else await this.deck.runsTo(address, isBack);
+    }
+
+    // A line's number was clicked on: runs to it, or sets a breakpoint there and takes it away.
+    picks(line, isRun) {
+        if (isRun) this.runsTo(line);
+        else if (this.addressOf(line) === null) tell('', 'No line from there on has bytes.');
+        else this.panes.all.stops.toggle(line);
+    }
+
+    // The address of a line, or of the next one with bytes, by the last listing; nothing where there is none.
+    addressOf(line) {
+        const { editor } = this;
+        for (let at = line; at <= editor.lines.length; at++) if (editor.rowOf(at)) return editor.rowOf(at).address;
+        return null;
+    }
+
+    // The address that a name stands for, or hexadecimal digits; nothing where they do for none.
+    addressIn(text) {
+        const named = this.listing?.symbols.get(text), digits = /^0?([0-9A-Fa-f]{1,4})H?$/.exec(text);
+        const address = named ?? (digits ? parseInt(digits[1], 16) : null);
+        return address !== null && address >= 0 && address <= 0xffff ? address : null;
+    }
+
+    // The instruction at an address.
+    textAt(address) {
+        return this.assembler.disassembled(this.session.run.board.peek(address, 4), address).text;
+    }
+
+    // The addresses in the ROM at which an instruction may return.
+    get returns() {
+        const { roms } = this.session.run;
+        if (this.returning?.roms !== roms) {
+            const isReturn = (_, address) => this.assembler.disassembled(roms.subarray(address, address + 4), address).text.startsWith('RET');
+            this.returning = { roms, addresses: [...Array(PROGRAM).keys()].filter(isReturn) };
+        }
+        return this.returning.addresses;
     }
 
     // Where the run is, in words.
     when() {
-        const { run } = this.session, { ticks } = clocksOf(run.board.bytes('board')), { tick, line } = placeInFrame(ticks);
+        const { run } = this.session, { ticks } = clocksOf(run.board), { tick, line } = placeInFrame(ticks);
         return { frame: run.frame, tick, line, isInside: run.inside > 0 };
     }
 }

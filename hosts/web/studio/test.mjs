@@ -24,6 +24,7 @@ import { setOf } from './set.js';
 import { Tape, masksOf, scriptOf } from './tape.js';
 import { moments } from './moments.mjs';
 import { sessions } from './sessions.mjs';
+import { ways } from './ways.mjs';
 
 const [PAGE, PACBOARD, FOLDER] = process.argv.slice(2);
 const ROOT = path.resolve(path.dirname(PAGE), '..');
@@ -297,6 +298,7 @@ async function main() {
     await inputs(files);
     await moments(files, assembler, { example, pacboard, at, row, ROOT });
     await sessions(files, assembler, { example, row });
+    await ways(files, assembler, { example, row });
     commands();
     row('what is refused by the board has a code', new Refused(4).code === 4);
 }

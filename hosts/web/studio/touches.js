@@ -27,8 +27,7 @@ export class TouchesPane {
     }
 
     find(text) {
-        const named = this.studio.listing?.symbols.get(text), digits = /^0?([0-9A-Fa-f]{1,4})H?$/.exec(text);
-        const address = named ?? (digits ? parseInt(digits[1], 16) : null);
+        const address = this.studio.addressIn(text);
         if (address === null) this.told.textContent = `${text}: no address and no name.`;
         else this.ask(address);
     }

@@ -214,9 +214,12 @@ async function looking(page) {
     row('by the mouse too', (await page.value("document.querySelector('.told-here').textContent")).includes('sprite'));
     await page.value(goes(18));
     const line = await page.value('studio.listing.lineAt.get(0x0117)');
-    await page.value(`studio.runsTo(${line})`);
+    await page.value(`studio.editor.show(${line})`);
+    await page.until(`document.querySelector('.gutter [data-line="${line}"]') !== null`);
+    await page.value(`document.querySelector('.gutter [data-line="${line}"]').dispatchEvent(new MouseEvent('click', { bubbles: true, shiftKey: true }))`);
+    await page.until(`studio.moment !== '18:0' && ${settled}`);
     const place = await page.value('[...studio.session.run.board.block.slice(52, 54), ...studio.session.run.board.block.slice(66, 69)].join()');
-    row('a click on the number of the LDIR runs to it', place === [0x17, 0x01, ...[0, 8, 16].map((bit) => 185803 - 1 >> bit & 255)].join()
+    row('a click with Shift on the number of the LDIR runs to it', place === [0x17, 0x01, ...[0, 8, 16].map((bit) => 185803 - 1 >> bit & 255)].join()
         || place.startsWith('23,1,'), place);
     const moment = await page.value('studio.moment');
     await page.value(`studio.runsTo(${line}, true)`);
@@ -225,6 +228,70 @@ async function looking(page) {
         `${moment} ${before}`);
     for (const pane of ['processor', 'memory', 'pictures', 'voices', 'who', 'help']) await page.value(`studio.panes.open('${pane}')`);
     row('each pane opens', page.faults.length === 0, page.faults.join('\n'));
+}
+
+// Breakpoints, and the ways over calls and out of them: the session of docs/DEBUGGING.md, whose steps are those of `pacboard debug`.
+async function breaking(page) {
+    await page.value("studio.begin('starfall', new TextDecoder().decode(studio.files['starfall.asm']), Array(600).fill(0).map((_, at) => (at >= 18 && at < 32 ? 4 : 0)))");
+    await page.value(rest);
+    await page.value(goes(18));
+    const line = await page.value('studio.listing.lineAt.get(0x0117)'), number = (at) => `.gutter [data-line="${at}"]`;
+    const where = () => page.value('(({ pc, steps }) => `${pc.toString(16)} ${steps}`)(studio.session.run.board.registers)');
+    const marked = () => page.value("[...document.querySelectorAll('.gutter .stop')].map(({ dataset }) => Number(dataset.line)).join()");
+    const shown = () => page.value("[...document.querySelectorAll('.stops > *')].map(({ textContent }) => textContent).join(' / ')");
+    const drawn = 'new Promise((then) => requestAnimationFrame(() => requestAnimationFrame(then)))';
+    const conditions = (text) => page.value(`(() => { const field = document.querySelector('.stops input'); field.value = ${JSON.stringify(text)}; field.dispatchEvent(new Event('change')); })()`);
+    const strikes = async (key, modifiers = 0) => {
+        await page.press(key, modifiers);
+        await page.until(settled);
+        return where();
+    };
+    await page.value(`(studio.editor.show(${line}), ${drawn})`);
+    await page.click(`${number(line)} b`);
+    await page.value(drawn);
+    await page.value("studio.panes.open('stops')");
+    row('a click on a number sets a breakpoint', (await marked()) === String(line) && (await shown()) === `line ${line}  0117×`, await shown());
+    await page.value('studio.deck.play()');
+    await page.until('!studio.loop.isPlaying');
+    const rested = await page.value("[document.getElementById('mode').textContent, studio.editor.current, studio.session.isReplay].join()");
+    row('what is played rests there', (await where()) === '117 185802' && rested === `At a breakpoint,${line},true`, `${await where()} ${rested}`);
+    row('F8 goes on to the next time', (await strikes('F8')) === '117 185803');
+    await conditions('BC = 10H');
+    row('a condition is looked at there: the time of docs/DEBUGGING.md', (await strikes('F8')) === '117 196646', await where());
+    row('and Shift F8 goes back to the time before', (await strikes('F8', 8)) === '117 185802', await where());
+    await conditions('(WORK) = NOWHERE');
+    row('a condition that is none says so, and stops nothing', (await shown()).includes('NOWHERE is no register') && await page.value('studio.session.stops === null'));
+    await conditions('');
+    const call = await page.value('studio.listing.lineAt.get(0x011d)'), caret = (at) => page.value(`studio.editor.visit(${at})`);
+    await caret(call);
+    const there = await strikes('F9'), after = await strikes('F6');
+    row('F6 steps over a call', there.startsWith('11d ') && after.startsWith('120 ') && Number(after.slice(4)) > Number(there.slice(4)) + 5, `${there}, ${after}`);
+    row('and Shift F6 back over it', (await strikes('F6', 8)) === there);
+    const inside = await strikes('F10');
+    await page.press('F10');
+    row('F7 goes out of it', inside.startsWith('135 ') && (await strikes('F7')) === after, await where());
+    await strikes('F9', 8);
+    await page.press('F10');
+    await page.press('F10');
+    row('and Shift F7 back to its call', (await strikes('F7', 8)) === there, await where());
+    await page.value("(({ area }) => { area.focus(); area.setSelectionRange(0, 0); document.execCommand('insertText', false, '; one more\\n'); })(studio.editor)");
+    await page.value(`(studio.editor.show(${line}), ${drawn})`);
+    row('a breakpoint goes with its line', (await marked()) === String(line + 1) && (await shown()) === `line ${line + 1}  0117×`, `${await marked()} ${await shown()}`);
+    await page.until('!studio.editor.isStale');
+    row('and stays at its place once that is assembled', (await marked()) === String(line + 1) && (await shown()) === `line ${line + 1}  0117×`, await shown());
+    await page.value("document.execCommand('undo')");
+    await page.until(`document.querySelector('.stops').textContent.includes('line ${line} ')`);
+    await page.value(drawn);
+    await page.click(`${number(line)} b`);
+    row('a second click takes it away', (await shown()) === '' && await page.value('studio.session.stops === null'));
+    await caret(call);
+    await page.press('F8', 2);
+    row('Ctrl F8 sets one at the caret', (await shown()) === `line ${call}  011D×`, await shown());
+    await page.value("(({ field }) => { field.value = 'SING'; field.dispatchEvent(new Event('change')); })(studio.panes.all.stops)");
+    row('and a name one at its address', (await shown()).endsWith(' / 0135×'), await shown());
+    await page.value("studio.begin('hello', new TextDecoder().decode(studio.files['hello.asm']))");
+    row('another source has none', (await shown()) === '' && await page.value('studio.session.stops === null'));
+    await page.value(rest);
 }
 
 // The same moment under new code, and what is refused.
@@ -394,6 +461,7 @@ async function main() {
         await moving(page);
         await holding(page);
         await looking(page);
+        await breaking(page);
         await editing(page);
         await outside(page, script);
         await previewing(page);

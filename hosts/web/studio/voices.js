@@ -28,11 +28,12 @@ export function voicesOf(block) {
 // How a voice of a block sounds alone: samples of a board whose program waits, with the others silent.
 export function soundOf(board, roms, block, voice) {
     board.begin(waiting(roms));
-    const bytes = board.bytes('board'), from = PLACES.AT_WAVE_REGISTERS;
+    const bytes = board.block, from = PLACES.AT_WAVE_REGISTERS;
     bytes.set(block.subarray(from, from + PLACES.WAVE_REGISTERS_SIZE), from);
     bytes[PLACES.AT_LATCH] |= SOUND;
     VOICES.forEach(({ volume }, other) => {
         if (other !== voice) bytes[PLACES.AT_WAVE_REGISTERS + volume] = 0;
     });
+    board.block = bytes;
     return board.run(FRAME_MICROSECONDS >> 1).samples.slice(0, SHOWN);
 }

@@ -1,16 +1,16 @@
 // Who wrote, or read, a byte: found by asking the board twice.
 //
 // A piece of the run is played as it is, and again with the byte turned into another one. Where both end alike but for the byte, and it is
-// still the other one, the piece neither wrote nor read it; else its halves are asked, down to a microsecond, in which at most one step begins.
-// A piece that puts back what it read from there, and leaves no trace of it, is taken for one that didn't touch it.
+// still the other one, the piece neither wrote nor read it; else its halves are asked, down to a step. A piece that puts back what it read from
+// there, and leaves no trace of it, is taken for one that didn't touch it.
 
 import { FRAME_MICROSECONDS, Refused } from '../board.js';
-import { clocksOf, numberIn, placeInFrame, STRIDE } from './run.js';
+import { clocksOf, placeInFrame, STRIDE } from './run.js';
 import { PLACES } from './tables.js';
 
-const HEAD = PLACES.AT_PICTURE; // bytes before the picture, of which no step takes anything
 const MASKS = [0xff, 0x0f, 0x07, 0x01]; // what another byte differs by: the first that the board takes there
-const COMPARED = [[PLACES.AT_A, PLACES.AT_ACCUMULATORS], [PLACES.AT_LATCH, PLACES.AT_DUE]];
+// What is compared: no picture, no sound, and nothing of what is asked and held, which no step changes.
+const COMPARED = [[PLACES.AT_A, PLACES.AT_ASKED], [PLACES.AT_TILE_RAM, PLACES.AT_ACCUMULATORS], [PLACES.AT_LATCH, PLACES.AT_HELD]];
 
 // Where a block has the byte of an address that can be written; nothing for others. The RAM is there once more from 6000H on, and so on.
 export function placeOf(address) {
@@ -23,14 +23,18 @@ export function placeOf(address) {
     return null;
 }
 
+// A block with the byte at a place turned into another one.
+function turned(block, at, mask) {
+    const other = block.slice();
+    other[at] ^= mask;
+    return other;
+}
+
 // The mask by which the byte at a place can be turned into another one; nothing where it keeps none.
 function maskAt(board, block, at) {
     for (const mask of MASKS) {
-        const other = block.slice();
-        other[at] ^= mask;
-        board.block = other;
         try {
-            board.reset();
+            board.block = turned(block, at, mask);
             return mask;
         } catch (error) {
             if (!(error instanceof Refused)) throw error;
@@ -39,59 +43,97 @@ function maskAt(board, block, at) {
     return null;
 }
 
-// A board's head after so many microseconds from another head.
-function after(board, head, microseconds) {
-    board.bytes('board').set(head);
-    board.run(microseconds);
-    return board.bytes('board').slice(0, HEAD);
+// A board's block with its clocks.
+function seen(board) {
+    return { block: board.block, ...clocksOf(board) };
 }
 
-// Whether two heads are alike, but for the byte at a place.
-function alike(one, other, at) {
-    return COMPARED.every(([from, to]) => {
+// What comes of a block after so many T-states.
+function after(board, block, ticks) {
+    board.block = block;
+    board.until(ticks);
+    return seen(board);
+}
+
+// Whether two blocks are alike but for the byte at a place, which is what it was before in both: `before` and turned.
+function isUntouched(one, other, at, before, mask) {
+    return one[at] === before && other[at] === (before ^ mask) && COMPARED.every(([from, to]) => {
         for (let byte = from; byte < to; byte++) if (one[byte] !== other[byte] && byte !== at) return false;
         return true;
     });
 }
 
+// The middle of a piece, at a step's end.
+function middle(board, head, end) {
+    for (let half = end.ticks - head.ticks >> 1; ; half >>= 1) {
+        const found = after(board, head.block, half);
+        if (found.ticks < end.ticks) return found;
+    }
+}
+
 // What touches the byte at a place within a piece, the last one first.
-function* touches(board, head, at, mask, inside, microseconds) {
-    const turned = head.slice();
-    turned[at] ^= mask;
-    const end = after(board, head, microseconds), other = after(board, turned, microseconds);
-    const isKept = end[at] === head[at] && other[at] === turned[at];
-    if (isKept && alike(end, other, at)) return;
-    if (microseconds > 1) {
-        const half = microseconds >> 1;
-        yield* touches(board, after(board, head, half), at, mask, inside + half, microseconds - half);
-        yield* touches(board, head, at, mask, inside, half);
+function* touches(board, head, end, at, mask) {
+    if (end.steps === head.steps) return;
+    const other = after(board, turned(head.block, at, mask), end.ticks - head.ticks), old = head.block[at];
+    if (isUntouched(end.block, other.block, at, old, mask)) return;
+    if (end.steps > head.steps + 1) {
+        const half = middle(board, head, end);
+        yield* touches(board, half, end, at, mask);
+        yield* touches(board, head, half, at, mask);
         return;
     }
-    const isInterrupt = head[PLACES.AT_REQUEST] === 1 && end[PLACES.AT_REQUEST] === 0
-        && (head[PLACES.AT_FLAGS] & ~end[PLACES.AT_FLAGS] & PLACES.IFF1) !== 0;
-    const { ticks, steps } = clocksOf(head);
-    yield { inside, isWrite: !isKept, old: head[at], value: end[at], pc: numberIn(head, PLACES.AT_PC), isInterrupt, steps, ...placeInFrame(ticks) };
+    board.block = head.block;
+    const { pc, iff1 } = board.registers, value = end.block[at];
+    const isInterrupt = iff1 && head.block[PLACES.AT_REQUEST] === 1 && end.block[PLACES.AT_REQUEST] === 0;
+    const isWrite = value !== old || other.block[at] !== (old ^ mask);
+    yield { ticks: head.ticks, isWrite, old, value, pc, isInterrupt, steps: head.steps, ...placeInFrame(head.ticks) };
+}
+
+// Whether nothing touches the byte at a place in the stride from a snapshot of a run to the next one.
+function isStrideUntouched({ board, snapshots, tape }, first, at, mask) {
+    const [from, to] = [snapshots[first / STRIDE], snapshots[first / STRIDE + 1]];
+    board.block = turned(from, at, mask);
+    for (let frame = first; frame < first + STRIDE; frame++) {
+        board.hold(tape.at(frame));
+        if (board.run(FRAME_MICROSECONDS).stop !== 0) return false;
+    }
+    return isUntouched(to, board.block, at, from[at], mask);
+}
+
+// The beginnings of a run's frames from one on, up to a moment, and that moment.
+function headsOf(run, first, last) {
+    const heads = [];
+    run.restore(first);
+    while (run.canGo && (run.frame < last.frame || last.inside > run.inside)) {
+        run.begins();
+        heads.push(seen(run.board));
+        if (run.frame < last.frame) run.next();
+        else run.part(last.inside);
+    }
+    heads.push(seen(run.board));
+    return heads;
 }
 
 // What has touched the byte at an address before this moment, the last one first; between two of them nothing, to let others go on. It plays
-// the run that it is handed back and forth.
+// the run that it is handed back and forth. Where a stride had no touch, the one before it is first asked as a whole.
 export function* touchesOf(run, address) {
-    const at = placeOf(address), { board } = run, now = { frame: run.frame, inside: run.inside };
-    const mask = at === null ? null : maskAt(board, board.block, at);
-    run.restore(now.frame);
+    const at = placeOf(address), { board } = run, mask = at === null ? null : maskAt(board, board.block, at);
     if (mask === null) return;
-    for (let first = Math.floor(now.frame / STRIDE) * STRIDE; first >= 0; first -= STRIDE) {
-        const heads = [];
-        run.restore(first);
-        for (let frame = first; frame < first + STRIDE && frame <= now.frame && run.canGo; frame++) {
-            board.hold(run.tape.at(frame));
-            heads.push(board.bytes('board').slice(0, HEAD));
-            run.next();
+    let last = { frame: run.frame, inside: run.inside }, isFound = true;
+    for (let first; last.frame > 0 || last.inside > 0; last = { frame: first, inside: 0 }) {
+        first = STRIDE * Math.floor((last.inside > 0 ? last.frame : last.frame - 1) / STRIDE);
+        if (!isFound && isStrideUntouched(run, first, at, mask)) {
+            yield null;
+            continue;
         }
+        isFound = false;
+        const heads = headsOf(run, first, last);
         yield null;
-        for (let frame = first + heads.length - 1; frame >= first; frame--) {
-            const length = frame === now.frame ? now.inside : FRAME_MICROSECONDS;
-            if (length > 0) for (const touch of touches(board, heads[frame - first], at, mask, 0, length)) yield { frame, ...touch };
+        for (let frame = heads.length - 2; frame >= 0; frame--) {
+            for (const { ticks, ...touch } of touches(board, heads[frame], heads[frame + 1], at, mask)) {
+                isFound = true;
+                yield { frame: first + frame, inside: ticks - heads[frame].ticks, ...touch };
+            }
             yield null;
         }
     }
