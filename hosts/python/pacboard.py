@@ -7,9 +7,10 @@
     kept = board.block                           # all of its state, 67,756 bytes; board.block = kept goes back
     board.step()                                 # one instruction
     pc = board.registers().pc
+    ran, samples = board.until(50_688, [0x0123]) # to this address, or for so many T-states
     board.close()                                # gives its memory back, as the end of `with LiveBoard(roms) as board` does
 
-A `Board` has the same calls but the last three, and is nothing but its block: each call reads and writes all of that, which takes longer, and
+A `Board` has the same calls but the last four, and is nothing but its block: each call reads and writes all of that, which takes longer, and
 `board.view("work_ram")` is what is there after each call.
 
 The library is the shared object that $PAC_HOST names, else the one beside this file, where `pip install hosts/python` lays it, else that of an
@@ -31,7 +32,7 @@ import subprocess
 import sys
 import tempfile
 import threading
-from collections.abc import Callable
+from collections.abc import Callable, Iterable
 from typing import TYPE_CHECKING, Any, Protocol, SupportsIndex, TypeAlias
 
 if TYPE_CHECKING:
@@ -56,6 +57,7 @@ BOARD_SIZE, ROMS_SIZE, STATE_SIZE, RGBA_SIZE = 67_756, 25_120, 67_756, 258_048  
 WIDTH, HEIGHT = 288, 224  # pixels
 FRAME_MICROSECONDS, FRAME_SAMPLES, SAMPLE_RATE, SWITCHES = 16_500, 1_584, 96_000, 0xC9
 STEP_SAMPLES, ALIGNED, CLOSED = 2, 16, 5  # room for a step, what the address of a live board's memory is divided by, and the code of a closed one
+UNTIL_TIME, UNTIL_PLACE, UNTIL_STOP, UNTIL_FULL = 1, 2, 3, 4  # why LiveBoard.until ended
 NAMES = """P1_UP P1_LEFT P1_RIGHT P1_DOWN RACK_TEST COIN1 COIN2 CREDIT
 P2_UP P2_LEFT P2_RIGHT P2_DOWN BOARD_TEST START1 START2 COCKTAIL""".split()
 INPUTS = {name: 1 << bit for bit, name in enumerate(NAMES)}
@@ -99,6 +101,23 @@ class Ran(ctypes.Structure):
     vector: int
     _fields_ = [
         ("ticks", ctypes.c_uint64), ("samples", ctypes.c_uint32), ("pictures", ctypes.c_uint32), ("stop", ctypes.c_uint32),
+        ("pc", ctypes.c_uint16), ("bytes", ctypes.c_uint8 * 4), ("vector", ctypes.c_uint8), ("zero", ctypes.c_uint8),
+    ]  # fmt: skip
+
+
+class Until(ctypes.Structure):
+    """What LiveBoard.until did, as pac_until of the header: `why` is UNTIL_TIME, and so on."""
+
+    ticks: int
+    samples: int
+    pictures: int
+    why: int
+    stop: int
+    pc: int
+    bytes: ctypes.Array[ctypes.c_uint8]
+    vector: int
+    _fields_ = [
+        ("ticks", ctypes.c_uint64), ("samples", ctypes.c_uint32), ("pictures", ctypes.c_uint32), ("why", ctypes.c_uint32), ("stop", ctypes.c_uint32),
         ("pc", ctypes.c_uint16), ("bytes", ctypes.c_uint8 * 4), ("vector", ctypes.c_uint8), ("zero", ctypes.c_uint8),
     ]  # fmt: skip
 
@@ -242,7 +261,15 @@ def block_of(buffer: Readable) -> bytes:
     return content
 
 
-def given(samples: ctypes.Array[ctypes.c_int16], ran: Ran) -> array.array[int]:
+def places_of(addresses: Iterable[SupportsIndex]) -> bytes:
+    """A set of addresses as LiveBoard.until takes it, a byte for each of 65,536: who hands in the same ones often makes it once."""
+    found = bytearray(1 << 16)
+    for address in addresses:
+        found[number("address", address, 16)] = 1
+    return bytes(found)
+
+
+def given(samples: ctypes.Array[ctypes.c_int16], ran: Ran | Until) -> array.array[int]:
     """The samples that a call gave, of the buffer that it was handed."""
     return array.array("h", ctypes.string_at(samples, 2 * ran.samples))
 
@@ -477,6 +504,28 @@ class LiveBoard(Calls):
         ran, samples = Ran(), (ctypes.c_int16 * STEP_SAMPLES)()
         self.call("step", samples, STEP_SAMPLES, ctypes.byref(ran))
         return ran, given(samples, ran)
+
+    def until(self, ticks: SupportsIndex, places: Iterable[SupportsIndex] = ()) -> tuple[Until, array.array[int]]:
+        """Goes on for so many T-states, or, after a step at least, to one of some addresses, or to a stop: what was done, and the samples. `places`
+        are the addresses, or the bytes of `places_of`. It goes by single steps, which takes longer than a run."""
+        left = number("ticks", ticks, 32)
+        handed = bytes_of(places) if isinstance(places, (bytes, bytearray, memoryview)) else places_of(places)
+        if len(handed) not in (0, 1 << 16):
+            raise Refused(1)
+        found, ran, part, now, samples = array.array("h"), Until(), Ran(), Registers(), (ctypes.c_int16 * STEP_SAMPLES)()
+        handle, told, registers = ctypes.byref(self.handle), ctypes.byref(part), ctypes.byref(now)
+        with self.lock:
+            done(LIBRARY.pac_live_registers(handle, registers))
+            while ran.why == 0:
+                is_over = ran.ticks >= left
+                if not is_over:
+                    done(LIBRARY.pac_live_step(handle, samples, STEP_SAMPLES, told))
+                    done(LIBRARY.pac_live_registers(handle, registers))
+                    found += given(samples, part)
+                    ran.ticks, ran.samples, ran.pictures = ran.ticks + part.ticks, len(found), ran.pictures + part.pictures
+                ran.why = UNTIL_TIME if is_over else UNTIL_STOP if part.stop else UNTIL_PLACE if handed and handed[now.pc] else 0
+        ran.pc, ran.stop, ran.bytes, ran.vector = now.pc, part.stop, part.bytes, part.vector
+        return ran, found
 
     def registers(self) -> Registers:
         """The registers by their names."""

@@ -10,6 +10,7 @@ and the exit status is 0 where M is 0.
 """
 from __future__ import annotations
 
+import array
 import concurrent.futures
 import copy
 import ctypes
@@ -34,7 +35,7 @@ ROOT = pathlib.Path(sys.argv[1]) if len(sys.argv) == 2 else pathlib.Path()
 OUT, EXAMPLES = ROOT / "hosts/out", ROOT / "examples"
 THREADS = 8
 FRAMES = 30
-STEPS, CALLS, OPENED = 3000, 400, 1000  # single steps, calls of a list, and boards that are opened one after another
+STEPS, SETS, CALLS, OPENED = 3000, 60, 400, 1000  # single steps, sets of addresses, calls of a list, and boards that are opened one after another
 MOST_LEFT = 40_000  # kibibytes that these may leave, a quarter of what they take
 LONG = 30_000_000  # microseconds of a run beside which another thread counts
 OTHERS: list[Any] = [float("inf"), float("nan"), 1.0, "1", b"1", None, [], 1j]  # what is no whole number
@@ -175,6 +176,75 @@ def try_steps() -> None:
             is_so = is_so and but_asked(live.block) == but_asked(block) and 4 <= ran.ticks <= 23
             is_so = is_so and all(getattr(found, name) == blocks.number(block, place) for name, place in names.items())
         row(f"{STEPS} steps of {name}, each with its registers", is_so)
+
+
+def walked(name: str, frames: int, steps: int) -> tuple[bytes, list[tuple[int, bytes, array.array[int]]]]:
+    """The block of an example after so many frames, and so many single steps from there on: PC, the block but for what was asked, and all samples so far."""
+    live, found, heard = pacboard.LiveBoard(roms_of(name)), [], array.array("h")
+    for _ in range(frames):
+        live.run(pacboard.FRAME_MICROSECONDS)
+    begun = live.block
+    for _ in range(steps):
+        heard = heard + live.step()[1]
+        found.append((live.registers().pc, but_asked(live.block), heard))
+    return begun, found
+
+
+def try_stops() -> None:
+    """Goes to addresses, and to none: each stop where single steps meet it."""
+    for name, frames in (("starfall", 150), ("sunset", 30)):
+        begun, steps = walked(name, frames, STEPS)
+        live, random_of, stops, wrong = pacboard.LiveBoard(roms_of(name)), random.Random(name), 0, 0
+        for _ in range(SETS):
+            live.block, at, heard = begun, 0, array.array("h")
+            places = set(random_of.sample(sorted({pc for pc, *_ in steps}), random_of.randrange(1, 12)))
+            for at, (pc, block, wanted) in enumerate(steps):
+                if pc in places:
+                    ran, samples = live.until((1 << 32) - 1, pacboard.places_of(places) if stops % 2 else places)
+                    stops, heard = stops + 1, heard + samples
+                    wrong += (ran.why, ran.pc, ran.samples) != (pacboard.UNTIL_PLACE, pc, len(samples)) or heard != wanted or but_asked(live.block) != block
+        row(f"{stops} stops of {name}, {wrong} of which are wrong", stops > 5000 and not wrong)
+        live.block = begun
+        whole = live.until(50_688)
+        board = pacboard.Board(roms_of(name))
+        board.block = begun
+        ran_of_block, samples = board.run(pacboard.FRAME_MICROSECONDS)
+        row(f"a frame of {name} by a block", whole[1][: len(samples)] == samples and abs(whole[0].ticks - ran_of_block.ticks) <= 22 and whole[0].pictures == 1)
+
+
+def try_cuts() -> None:
+    """Cuts frames by until, step and run: all of it at once leaves the same."""
+    live, board, random_of, heard, frames = pacboard.LiveBoard(roms_of("starfall")), board_of("starfall"), random.Random(1), array.array("h"), 10
+    for at in range(1, frames + 1):
+        end = at * 50_688
+        while live.registers().time < end - 100:
+            if random_of.randrange(2):
+                heard += live.step()[1]
+            else:
+                heard += live.until(random_of.randrange(min(20_000, end - 50 - live.registers().time)), [random_of.randrange(0x4000) for _ in range(3)])[1]
+        heard += live.run(pacboard.FRAME_MICROSECONDS)[1]
+    _, samples = board.run(frames * pacboard.FRAME_MICROSECONDS)
+    row(f"{frames} frames in pieces", heard == samples and live.block == board.block)
+
+
+def try_until() -> None:
+    """A program that stops, time that is over, and what until doesn't take."""
+    stops = pacboard.LiveBoard(b"\x00\xed\x00" + bytes(pacboard.ROMS_SIZE - 3))
+    ran, samples = stops.until(1000, [0])
+    row("a stop", (ran.why, ran.stop, ran.pc, bytes(ran.bytes), ran.ticks, len(samples)) == (pacboard.UNTIL_STOP, 1, 1, b"\xed\0\0\0", 4, 0))
+    live: Any = pacboard.LiveBoard(bytes(pacboard.ROMS_SIZE))
+    told = [(ran.why, ran.pc, ran.ticks) for ran, _ in (live.until(0, [0]), live.until(1), live.until(9), live.until(100, [0, 0xFFFF, 7]), live.until(100, [7]))]
+    row("NOPs", told == [(1, 0, 0), (1, 1, 4), (1, 4, 12), (2, 7, 12), (1, 32, 100)])
+    kept = live.block
+    for words in ((-1,), (1 << 32,), (10**400,), (1, [-1]), (1, [1 << 16])):
+        row(f"until{repr(words)[:30]}: ValueError", fault_of(live.until, *words) == "ValueError" and live.block == kept)
+    for words in ((1.0,), ("1",), (None,), (float("nan"),), (1, ["1"]), (1, [1.5]), (1, None), (1, 7), (1, [[]])):
+        row(f"until{repr(words)[:30]}: TypeError", fault_of(live.until, *words) == "TypeError" and live.block == kept)
+    for size in (1, 255, 65_535, 65_537, 1 << 20):
+        row(f"a set of {size} bytes", fault_of(live.until, 1, bytes(size)) == fault_of(live.until, 1, bytearray(size)) == "Refused" and live.block == kept)
+    row("a set without a byte is without an address", live.until(40, b"")[0].why == pacboard.UNTIL_TIME)
+    live.close()
+    row("until of a closed board", fault_of(live.until, 1) == "Closed")
 
 
 def answer(it: pacboard.Calls, call: int, random_of: random.Random, kept: list[bytes]) -> object:
@@ -381,7 +451,8 @@ def main() -> int:
     if not (OUT / "starfall.roms").is_file():
         print((__doc__ or "").strip())
         return 2
-    parts = (try_package, try_structs, try_calls, try_wrong, try_views, try_arrays, try_pickles, try_closed, try_steps, try_same, try_beside, try_threads)
+    parts = (try_package, try_structs, try_calls, try_wrong, try_views, try_arrays, try_pickles, try_closed, try_steps, try_stops, try_cuts, try_until, try_same, try_beside,
+             try_threads)  # fmt: skip
     for part in parts:
         part()
     print(f"{passed} passed, {failed} failed")

@@ -1,4 +1,5 @@
 """Writes a translation as a source of docs/ASSEMBLER.md, with the line of the first source that each of its lines is from. For bin/translate."""
+import pathlib
 import re
 
 import dialects
@@ -82,7 +83,9 @@ class Writer:
     # ---- Lines
 
     def put(self, text: str, line: Line, comment: str = "") -> None:
-        """Writes a line."""
+        """Writes a line, with its place in the source where it isn't the same line there: listings and the studio show it."""
+        if (text or comment) and (line.file, line.number) != (self.translation.file, len(self.lines) + 1):
+            comment = f"{pathlib.Path(line.file).name}:{line.number}{'  ' if comment else ''}{comment}"
         whole = f"{text}{'  ' if text else ''}; {comment}" if comment else text
         self.lines.append((whole[:WIDE] if len(text) < WIDE else text, line))
 

@@ -145,7 +145,7 @@ class Translation:
     """A source, its symbols, and what it comes to."""
 
     def __init__(self, dialect: Dialect, folders: list[pathlib.Path], defined: dict[str, int]) -> None:
-        self.dialect, self.folders, self.defined = dialect, folders, defined
+        self.dialect, self.folders, self.defined, self.file = dialect, folders, defined, ""
         self.symbols: dict[str, int] = dict(defined)
         self.files: dict[pathlib.Path, list[str]] = {}
         self.assigned: dict[str, int] = {}
@@ -732,6 +732,7 @@ class Translation:
 
     def run(self, path: pathlib.Path) -> None:
         """Goes through the source until no value changes."""
+        self.file = str(path)
         for _ in range(PASSES):
             self.begin_pass()
             self.take_all(path)

@@ -1,29 +1,28 @@
--- What a frame's call answers, from what the board's call answered.
-use Rattle.std.proofs.Common.{◌≡◌, ℕ, zero, suc, ◌+◌, ◌-◌, ◌<◌, ◌≤◌, ◌⊎◌, inl, inr, List, Option, None, Some, Result, Ok, Err}
+-- Where a frame's steps leave a course, from where they leave its board.
+use Rattle.std.proofs.Common.{◌≡◌, ℕ, zero, suc, ◌+◌, ◌-◌, ◌<◌, ◌≤◌, ◌⊎◌, inl, inr, List, None}
 use Rattle.std.proofs.Common.{refl, sym, ap, subst, ◌∙◌, arith}
 use mathlib.Core.List.{IsPrefix}
-use Rattle.pac_board.specs.Stop.{Stop}
 use Rattle.pac_board.specs.BoardView.{BoardView}
 use Rattle.pac_board.specs.Calls.{with_due}
-use Rattle.pac_board.specs.Step.{Moment, step}
+use Rattle.pac_board.specs.Step.{Moment}
 use Rattle.pac_board.specs.Trace.{by_view}
 use Rattle.pac_board.specs.Walk.{Walk, walk}
 use Rattle.pac_board.specs.Due.{Due}
-use Rattle.pac_board.proofs.Walks.{open-is-late, walk-to-ends, step-timely, play-timely}
+use Rattle.pac_board.proofs.Walks.{play-timely}
 use Rattle.pac_board.proofs.Sinks.{cut-along, cut-something}
 use Rattle.pac_board.specs.SinksLaws.{Giving}
 use Rattle.pac_board.specs.Sinks.{TookAll}
 use Rattle.pac_board.specs.State.{BoardValue, board_with_inputs, due_outputs, nothing_due, steps_counted}
-use Rattle.pac_board.specs.Turns.{GoesTo, HasGone, IsWayRefused, board_after_walk}
+use Rattle.pac_board.specs.Turns.{IsWayRefused, board_after_walk}
 use Rattle.pac_inputs.specs.Stretches.{held}
 use Rattle.pac_inputs.specs.declared.line.Stretch.{Stretch}
 use Rattle.pac_board_course.proofs.Counted.{counted, going-if-counted, going-same, going-next}
-use Rattle.pac_board_course.proofs.Framed.{frame_walk, frame_closed, frames_ended, frame-stops, frame-now, frame-closed, on-the-way-on}
+use Rattle.pac_board_course.proofs.Framed.{frame_walk, frame_closed, frames_ended, frame-now, frame-closed, on-the-way-on}
 use Rattle.pac_board_course.proofs.Framed.{closed-outputs, closed-stop}
 use Rattle.pac_board_course.proofs.Whole.{frame-within, held-after, not-held-yet}
 use Rattle.pac_board_course.specs.Course.{CourseValue, end_of, next_in, held_in, way_walked, course_after}
 use Rattle.pac_board_course.specs.CourseProofs.{course_with_due}
-use Rattle.pac_board_course.specs.Frames.{IsUnderway, IsFrameDone, PlaysFrameOn, frame_end}
+use Rattle.pac_board_course.specs.Frames.{IsUnderway, frame_end}
 use Rattle.pac_board_course.specs.Plays.{IsCourseHeldUp}
 
 -- the inputs that are held after the frame under way
@@ -111,35 +110,8 @@ module _ {S : Type 0} (to : Giving S) (old : CourseValue) (board new : BoardValu
             (sym (ap (λ (w : Walk BoardView). w.outputs) same ∙ closed-outputs old tries)) taken;
       }
 
-  -- the frame came to its end
-  played : old.board.state.now.time < end_of old → (stop : Option Stop) → HasGone to.took old.board (frame_end old) sink stop board later
-      → IsClosed old board new → script ≡ old.script → gone ≡ old.gone → IsFrameDone to.took old sink stop course later
-  played early None gone_to closed scripts gones =
-      let tries = frame_end old in
-      let ended =
-      open-is-late (frame_end old) (frame_walk old tries)
-      (walk-to-ends (step (by_view old.board.set)) (frame_end old) (step-timely (by_view old.board.set)) old.board.state.now)
-      (sym gone_to.stop_is) in
-      let time = ap (λ (b : BoardValue). b.state.now.time) gone_to.board in
-      let kept = due-kept old board new closed in
-      record {
-        played = underway early tries (sym gone_to.stop_is) gone_to.board gone_to.sink_is closed scripts gones;
-        later_is = omega (arith, kept.2, time, ended);
-      }
-  played early (Some stop) gone_to closed scripts gones =
-      let tries = frame_end old in
-      let at = placed tries nothing_due gone_to.board closed scripts gones in
-      let whole = frame-stops old tries stop (frame-within old early) (sym gone_to.stop_is) in
-      record {
-        course = at ∙ ap (course_after old) whole;
-        stop_is = gone_to.stop_is ∙ sym (closed-stop old tries) ∙ ap (λ (w : Walk BoardView). w.stop) whole;
-        sink_is =
-            subst (λ xs. TookAll to.took sink xs later)
-            (sym (closed-outputs old tries) ∙ ap (λ (w : Walk BoardView). w.outputs) whole) gone_to.sink_is;
-      }
-
   -- an output of the frame was refused
-  held-up : old.board.state.now.time < end_of old → (steps : ℕ)
+  pub held-up : old.board.state.now.time < end_of old → (steps : ℕ)
       (stays : IsWayRefused to old.board (frame_end old) sink board later)
       → stays.steps ≡ steps → IsClosed old board new → script ≡ old.script → gone ≡ old.gone → IsCourseHeldUp to old sink course later
   held-up early zero stays count closed scripts gones = cut-something stays.cut (ap (λ n. (frame_walk old n).outputs) count)
@@ -178,17 +150,3 @@ module _ {S : Type 0} (to : Giving S) (old : CourseValue) (board new : BoardValu
             ∙ ap (λ n. (way_walked old n).outputs) number_is)
             (stays.of_last last count);
       }
-
-  -- the frame, by the board's answer
-  pub frame-answered : {E : Type 0} (result : Result (Option Stop) E) (start : BoardValue) (limit : ℕ) → start ≡ old.board
-      → limit ≡ frame_end old → old.board.state.now.time < end_of old → GoesTo to start limit sink result board later
-      → IsClosed old board new → script ≡ old.script → gone ≡ old.gone → PlaysFrameOn to old sink result course later
-  frame-answered (Ok stop) start limit begins ends early goes closed scripts gones =
-      played early stop
-      (subst (λ (b : BoardValue). HasGone to.took b (frame_end old) sink stop board later) begins
-      (subst (λ n. HasGone to.took start n sink stop board later) ends goes)) closed scripts gones
-  frame-answered (Err refusal) start limit begins ends early goes closed scripts gones =
-      let stays =
-      subst (λ (b : BoardValue). IsWayRefused to b (frame_end old) sink board later) begins
-      (subst (λ n. IsWayRefused to start n sink board later) ends goes) in
-      held-up early stays.steps stays refl closed scripts gones

@@ -1,6 +1,6 @@
 -- A frame of a course: the board's walk to the frame's end, at which the next one's inputs are held, is on the way on.
 use Rattle.std.proofs.Common.{◌≡◌, ℕ, ◌/◌, ◌<◌, ◌≤◌, Option, None, Some, Bool, true, false, if◌then◌else◌}
-use Rattle.std.proofs.Common.{nat_le, is_some, refl, sym, ap, ◌∙◌, arith}
+use Rattle.std.proofs.Common.{nat_le, is_some, refl, ◌∙◌, arith}
 use Rattle.std.proofs.lemmas.Bool.Decides.{nat_tests}
 use Rattle.pac_board.specs.Stop.{Stop}
 use Rattle.pac_board.specs.BoardView.{BoardView}
@@ -8,8 +8,8 @@ use Rattle.pac_board.specs.Step.{Questions, Moment, frame_ticks, step}
 use Rattle.pac_board.specs.Trace.{by_view, moment_with_inputs}
 use Rattle.pac_board.specs.Walk.{Walk, walk}
 use Rattle.pac_board.proofs.Runs.{closed, closed_if, walk-closed}
-use Rattle.pac_board.proofs.Walks.{on-the-way, ended-whole, stopped-has-ended, stopped-is-early, play-timely}
-use Rattle.pac_board_course.specs.Course.{CourseValue, held_in, end_of, next_in, way_on}
+use Rattle.pac_board.proofs.Walks.{on-the-way, stopped-is-early}
+use Rattle.pac_board_course.specs.Course.{CourseValue, held_in, end_of, next_in}
 use Rattle.pac_board_course.specs.Frames.{frame_end}
 
 -- the frames that have ended
@@ -81,15 +81,3 @@ module _ (course : CourseValue) where
   on-the-way-on tries within =
       let on = on-the-way (next_in course) (frame_end course) (end_of course) course.board.state.now tries within in
       (on.0, frame-closed tries ∙ on.1)
-
-  -- and, with a stop, the whole of it
-  pub frame-stops : (tries : ℕ) (stop : Stop) → frame_end course ≤ end_of course → (frame_walk course tries).stop ≡ Some stop
-      → frame_closed tries ≡ way_on course
-  frame-stops tries stop within met =
-      let on = on-the-way-on tries within in
-      let w = frame_walk course tries in
-      let rest = closed-rest w w.stop (nat_le (frame_end course) w.now.time) in
-      let stopped = ap (λ (w : Walk BoardView). w.stop) (sym on.1) ∙ rest.1 ∙ met in
-      on.1
-      ∙ ended-whole (next_in course) (end_of course) (play-timely ask (held_in course)) course.board.state.now on.0
-      (stopped-has-ended (end_of course) (walk (next_in course) (end_of course) course.board.state.now on.0) stop stopped)

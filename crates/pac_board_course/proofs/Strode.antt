@@ -1,6 +1,6 @@
 -- Steps of a course in one go: those of its board up to a limit within the frame under way.
 use Rattle.std.proofs.Common.{◌≡◌, ℕ, zero, suc, ◌+◌, ◌/◌, ◌==◌, ◌<◌, ◌≤◌}
-use Rattle.std.proofs.Common.{if◌then◌else◌, Bool, true, false, inl, inr, Option, None, Some}
+use Rattle.std.proofs.Common.{min, if◌then◌else◌, Bool, true, false, inl, inr, Option, None, Some}
 use Rattle.std.proofs.Common.{Result, Ok, Err, List, refl, sym, ap, subst, ◌∙◌, arith}
 use Rattle.std.proofs.lemmas.Bool.Decides.{nat_tests}
 use mathlib.Core.List.{IsPrefix}
@@ -28,12 +28,11 @@ use Rattle.pac_board.specs.State.{BoardValue}
 use Rattle.pac_board.proofs.Sinks.{cut-along}
 use Rattle.pac_board.proofs.Stretches.{has-no-stop}
 use Rattle.pac_inputs.specs.declared.line.Stretch.{Stretch}
-use Rattle.pac_board_course.proofs.Answered.{IsClosed, due-kept, underway, frame-answered}
+use Rattle.pac_board_course.proofs.Answered.{IsClosed, due-kept, underway, held-up}
 use Rattle.pac_board_course.proofs.Counted.{going-if-counted, going-same, going-next}
 use Rattle.pac_board_course.proofs.Framed.{frame_walk}
 use Rattle.pac_board_course.specs.Course.{CourseValue, end_of, next_in, held_in, way_walked}
-use Rattle.pac_board_course.specs.Frames.{frame_end}
-use Rattle.pac_board_course.specs.Told.{PlaysTold}
+use Rattle.pac_board_course.specs.Frames.{PlaysInFrame, GoesTold, frame_end}
 
 -- ---- the step that meets a stop
 
@@ -94,7 +93,7 @@ module _ {S : Type 0} (to : Giving S) (old : CourseValue) (board new : BoardValu
   walk_at tries = walk next limit old.board.state.now tries
 
   went : old.board.state.now.time < limit → (stop : Option Stop) → HasGone to.took old.board limit sink stop board later
-      → PlaysTold {E = Unit {0}} to old sink (Ok stop) course later
+      → PlaysInFrame {E = Unit {0}} to old sink (Ok stop) course later
   went soon None goes =
       let on = on-the-way next limit (frame_end old) old.board.state.now limit within in
       let late = open-is-late limit (walk_at limit) (walk-to-ends next limit (step-timely (by_view old.board.set)) old.board.state.now)
@@ -122,8 +121,11 @@ module _ {S : Type 0} (to : Giving S) (old : CourseValue) (board new : BoardValu
             (ap (λ (w : Walk BoardView). w.stop) (sym on.1) ∙ found.open_yet) walked
             (subst (λ xs. TookAll to.took sink xs later) (found.outputs ∙ ap (λ (w : Walk BoardView). w.outputs) on.1) goes.sink_is)
             closed scripts gones;
-        ending = ap (next_in old) (not-closed in_frame closed ∙ there)
-            ∙ ap (next_with_inputs (by_view old.board.set) (held_in old) (walk_at found.tries).now.time) found.stops;
+        ending = (
+          let kept = due-kept old board new closed in omega (arith, kept.2, in_frame),
+          ap (next_in old) (not-closed in_frame closed ∙ there)
+              ∙ ap (next_with_inputs (by_view old.board.set) (held_in old) (walk_at found.tries).now.time) found.stops,
+        );
       }
     where
       not-closed : board.state.now.time < frame_end old → IsClosed old board new → new.state.now ≡ board.state.now
@@ -159,18 +161,17 @@ module _ {S : Type 0} (to : Giving S) (old : CourseValue) (board new : BoardValu
       }
 
   pub told-answered : {E : Type 0} (result : Result (Option Stop) E) → old.board.state.now.time < limit
-      → GoesTo to old.board limit sink result board later → PlaysTold to old sink result course later
+      → GoesTo to old.board limit sink result board later → PlaysInFrame to old sink result course later
   told-answered (Ok stop) soon goes = went soon stop goes
   told-answered (Err refusal) soon goes =
-      frame-answered to old board new script gone sink later (Err refusal) old.board (frame_end old) refl refl early
-      (refused-in-frame goes) closed scripts gones
+      let stays = refused-in-frame goes in held-up to old board new script gone sink later early stays.steps stays refl closed scripts gones
 
 -- to the end that a board has come to, or to its limit
 pub goes-answered : {S E : Type 0} (to : Giving S) (old : CourseValue) (board new : BoardValue) (script : List Stretch) (gone : ℕ)
     (sink later : S) (limit : ℕ) → limit ≤ frame_end old → old.board.state.now.time < end_of old → IsClosed old board new
     → script ≡ old.script → gone ≡ old.gone → (stops : Option (List ℕ)) (result : Result (Option Stop) E)
     → old.board.state.now.time < limit → GoesUntil to old.board limit stops sink result board later
-    → PlaysTold to old sink result (record { board = new; script = script; gone = gone }) later
+    → PlaysInFrame to old sink result (record { board = new; script = script; gone = gone }) later
 goes-answered {E = E} to old board new script gone sink later limit within early closed scripts gones stops (Ok stop) soon goes =
     let sooner = goes.within in
     told-answered to old board new script gone sink later goes.end (omega arith) early closed scripts gones {E = E}
@@ -259,9 +260,30 @@ module _ (old : CourseValue) (until : ℕ) (within : until ≤ frame_end old) wh
       subst (λ (m : Moment BoardView). is_stop stops m.regs.pc ≡ false) (sym (stepped-held bare.count bare.begun n (omega arith)))
       (passed n some (omega arith))
 
--- where the course is, by its answer
-pub tries-of : {S E : Type 0} (to : Giving S) (old new : CourseValue) (sink later : S) (result : Result (Option Stop) E)
-    → PlaysTold to old sink result new later → (tries : ℕ) × (new.board.state.now ≡ (way_walked old tries).now)
-tries-of to old new sink later (Ok stop) made =
-    (made.played.steps, ap (λ (c : CourseValue). c.board.state.now) made.played.course)
-tries-of to old new sink later (Err refusal) made = (made.steps, ap (λ (c : CourseValue). c.board.state.now) made.course)
+-- all that one go answers
+module _ {S E : Type 0} (to : Giving S) (old : CourseValue) (board new : BoardValue) (sink later : S) (limit until : ℕ)
+    (until_is : until ≡ min limit (frame_end old)) (stops : Option (List ℕ)) (told after : Option (List PastStep))
+    (result : Result (Option Stop) E) where
+  tries-of : (result : Result (Option Stop) E)
+      → PlaysInFrame to old sink result (record { board = new; script = old.script; gone = old.gone }) later
+      → (tries : ℕ) × (new.state.now ≡ (way_walked old tries).now)
+  tries-of (Ok stop) made = (made.played.steps, ap (λ (c : CourseValue). c.board.state.now) made.played.course)
+  tries-of (Err refusal) made = (made.steps, ap (λ (c : CourseValue). c.board.state.now) made.course)
+
+  pub gone-told : old.board.state.now.time < end_of old → old.board.state.now.time < limit → IsClosed old board new
+      → GoesUntil to old.board until stops sink result board later
+      → IsNoted (step (by_view old.board.set)) until old.board.state.now board.state.now told after
+      → PassesBy (step (by_view old.board.set)) stops old.board.state.now board.state.now.steps
+      → GoesTold to old limit stops told sink result (record { board = new; script = old.script; gone = old.gone }) after later
+  gone-told early begun closed goes bare passes =
+      let within : until ≤ frame_end old = omega arith in
+      let made =
+      goes-answered to old board new old.script old.gone sink later until within early closed refl refl stops result (omega arith) goes in
+      let there = tries-of result made in
+      let kept = due-kept old board new closed in
+      record {
+        made = made;
+        told_is = subst (λ n. IsNoted (next_in old) n old.board.state.now new.state.now told after) until_is
+            (course-noted old until within board.state.now new.state.now told after there.0 bare kept.3 there.1);
+        passes = course-passes old until within board.state.now new.state.now.steps stops told after bare passes kept.3;
+      }

@@ -6,23 +6,23 @@ use mathlib.Core.List.{IsPrefix}
 use Rattle.pac_board.specs.Stop.{Stop}
 use Rattle.pac_board.specs.BoardView.{BoardView, board_after}
 use Rattle.pac_board.specs.Entry.{Hold}
-use Rattle.pac_board.specs.Step.{Moment, frame_ticks, step}
+use Rattle.pac_board.specs.Step.{Moment, Ends, frame_ticks, step}
 use Rattle.pac_board.specs.Trace.{by_view, moment_with_inputs}
-use Rattle.pac_board.specs.Walk.{Walk}
+use Rattle.pac_board.specs.Walk.{Walk, walk_after_step}
 use Rattle.pac_board.proofs.Pieces.{two-parts}
 use Rattle.pac_board.proofs.Runs.{walk-near}
 use Rattle.pac_board.proofs.Sinks.{took-both, cut-along, cut-after, cut-something, prefix-after}
-use Rattle.pac_board.proofs.Walked.{walked-after}
 use Rattle.pac_board.proofs.Walks.{joined, more-joined, goes-on, ended-whole, late-has-ended, step-timely, play-timely}
+use Rattle.pac_board.proofs.Walks.{going-steps, open-goes-on, stopped-has-ended}
 use Rattle.pac_board.specs.ModelLaws.{IsTimely}
 use Rattle.pac_board.specs.SinksLaws.{Giving}
 use Rattle.pac_board.specs.Sinks.{TookAll}
 use Rattle.pac_board.specs.State.{BoardValue, nothing_due, steps_counted}
 use Rattle.pac_inputs.specs.Stretches.{held}
 use Rattle.pac_board_course.proofs.Framed.{frame_walk, moment_after, frames_ended}
-use Rattle.pac_board_course.specs.Course.{CourseValue, held_in, end_of, next_in, way_on, way_walked, course_after}
+use Rattle.pac_board_course.specs.Course.{CourseValue, held_in, end_of, next_in, way_walked, course_after}
 use Rattle.pac_board_course.specs.CourseProofs.{course_with_due}
-use Rattle.pac_board_course.specs.Frames.{IsUnderway, IsFrameDone, frame_end}
+use Rattle.pac_board_course.specs.Frames.{IsUnderway, HasPlayedInFrame, frame_end}
 use Rattle.pac_board_course.specs.Laws.{CoursesGoOn}
 use Rattle.pac_board_course.specs.Plays.{IsOver, IsCourseHeldUp}
 
@@ -161,26 +161,6 @@ module _ {S : Type 0} (to : Giving S) (old : CourseValue) (sink : S) where
         sink_is = subst (λ (w : Walk BoardView). TookAll to.took sink w.outputs taker) whole under.sink_is;
       }
 
-  pub underway-over : (now new : CourseValue) (stop : Option Stop) (taker later : S) → IsUnderway to.took old sink now taker
-      → IsOver to.took now taker stop new later → IsOver to.took old sink stop new later
-  underway-over now new stop taker later under over =
-      let told = subst (λ course. IsOver to.took course taker stop new later) under.course over in
-      let w = walked under.steps in
-      let rest = way_on (there under.steps) in
-      let whole = goes-on (next_in old) (end_of old) (timely old) first_now under.steps in
-      let steps = steps-there now taker under in
-      record {
-        course =
-            told.course
-            ∙ after-twice old w rest (omega (arith, steps))
-            (walked-after (next_in old) (end_of old) (timely old) w.now (end_of old)).steps
-            ∙ ap (course_after old) whole;
-        stop_is = told.stop_is ∙ ap (λ (w : Walk BoardView). w.stop) whole;
-        sink_is =
-            subst (λ (w : Walk BoardView). TookAll to.took sink w.outputs later) whole
-            (took-both to.took w.outputs rest.outputs sink taker later under.sink_is told.sink_is);
-      }
-
   pub underway-held-up : (now new : CourseValue) (taker later : S) → IsUnderway to.took old sink now taker
       → IsCourseHeldUp to now taker new later → IsCourseHeldUp to old sink new later
   underway-held-up now new taker later under held_up =
@@ -216,19 +196,29 @@ module _ {S : Type 0} (to : Giving S) (old : CourseValue) (sink : S) where
           (ap (λ (w : Walk BoardView). w.outputs) whole ∙ ap (λ n. (walked n).outputs) (sym same))
           (prefix-after (walked under.steps).outputs (way_walked (there under.steps) last).outputs told.cut.taken (told.of_last last count))
 
-  -- ---- a frame, by its answer
-
-  pub underway-closed : (now new : CourseValue) (stop : Option Stop) (taker later : S) → IsUnderway to.took old sink now taker
-      → is_some stop ≡ true → IsFrameDone to.took now taker stop new later → IsOver to.took old sink stop new later
-  underway-closed now new None taker later under met played = cc
-  underway-closed now new (Some stop) taker later under met played = underway-over now new (Some stop) taker later under played
-
-  pub underway-more : (now new : CourseValue) (stop : Option Stop) (taker later : S) → IsUnderway to.took old sink now taker
-      → is_some stop ≡ false → IsFrameDone to.took now taker stop new later → IsUnderway to.took old sink new later
-  underway-more now new (Some stop) taker later under open_yet played = cc
-  underway-more now new None taker later under open_yet played = underway-on now new taker later under played.played
-
-  pub underway-later : (now new : CourseValue) (stop : Option Stop) (taker later : S) → is_some stop ≡ false
-      → IsFrameDone to.took now taker stop new later → now.board.state.now.time < new.board.state.now.time
-  underway-later now new (Some stop) taker later open_yet played = cc
-  underway-later now new None taker later open_yet played = played.later_is
+  -- a stop ends it
+  pub underway-stopped : (now new : CourseValue) (stop : Option Stop) (taker later : S) → IsUnderway to.took old sink now taker
+      → now.board.state.now.time < end_of now → is_some stop ≡ true → HasPlayedInFrame to.took now taker stop new later
+      → IsOver to.took old sink stop new later
+  underway-stopped now new None taker later under early met went = cc
+  underway-stopped now new (Some stop) taker later under early met went =
+      let on = underway-on now new taker later under went.played in
+      let w = walked on.steps in
+      let here = ap (λ (course : CourseValue). course.board.state.now) on.course in
+      let within = frame-within now early in
+      let ends = ap end_of under.course in
+      let time = ap (λ (now : Moment BoardView). now.time) here in
+      let soon : w.now.time < end_of old = omega (arith, within, ends, time, went.ending.0) in
+      let meets : next_in old w.now ≡ Ends stop
+      = ap (next_in old) (sym here) ∙ ap (λ (course : CourseValue). next_in course new.board.state.now) (sym under.course)
+      ∙ went.ending.1 in
+      let step = going-steps (next_in old) (end_of old) w (open-goes-on (end_of old) w on.open_yet soon) ∙ ap (walk_after_step w) meets in
+      let whole =
+      sym step
+      ∙ ended-whole (next_in old) (end_of old) (timely old) first_now (suc on.steps)
+      (stopped-has-ended (end_of old) (walked (suc on.steps)) stop (ap (λ (w : Walk BoardView). w.stop) step)) in
+      record {
+        course = on.course ∙ ap (course_after old) whole;
+        stop_is = ap (λ (w : Walk BoardView). w.stop) whole;
+        sink_is = subst (λ (w : Walk BoardView). TookAll to.took sink w.outputs later) whole on.sink_is;
+      }

@@ -2,7 +2,6 @@ pub mod Course
 pub mod CourseProofs
 pub mod Plays
 pub mod Frames
-pub mod Told
 pub mod Laws
 pub use Rattle.pac_inputs.specs.Codes as ScriptCodes
 pub use Rattle.pac_inputs.specs.Script

@@ -6,9 +6,10 @@ ghost use Rattle.pac_board.specs.SinksLaws.{by};
 ghost use Rattle.pac_board.specs.State as state;
 ghost use Rattle.pac_board.specs.Step.{frame_ticks};
 ghost use Rattle.pac_inputs.specs.Stretches.{most_frames, total_frames};
-ghost use Rattle.pac_board_course.specs.CourseProofs.{FitsTime, FitsAsked, board_asked, frames_begun};
+ghost use Rattle.pac_board_course.specs.CourseProofs.{FitsTime, FitsAsked};
+ghost use Rattle.pac_board_course.specs.CourseProofs.{board_asked, frames_begun};
 ghost use Rattle.pac_board_course.specs.Course.{begun, end_of};
-ghost use Rattle.pac_board_course.specs.Frames.{PlaysFrameOn};
+ghost use Rattle.pac_board_course.specs.Frames.{PlaysInFrame};
 ghost use Rattle.pac_board_course.specs.Plays.{RunsToEnd};
 
 use pac_board::{Board, FRAME_TICKS, Flags, Inputs, Refused, Sink, Stop};
@@ -136,7 +137,7 @@ impl Course {
     fn play_frame<S: Sink>(&mut self, sink: &mut S) -> Result<Option<Stop>, Refused>
         requires nothing { self.old.board.state.due ≡ state.nothing_due }
         requires early { self.old.board.state.now.time < end_of self.old }
-        ensures { PlaysFrameOn (by S.took S.refused) self.old sink.old result self.new sink.new }
+        ensures { PlaysInFrame (by S.took S.refused) self.old sink.old result self.new sink.new }
     {
         let frame = self.board.time() / FRAME_TICKS + 1;
         let played = self.board.go_to(FRAME_TICKS * frame, sink);

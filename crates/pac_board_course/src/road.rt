@@ -1,15 +1,11 @@
 //! The way forward of a run: steps in one go, each of which is told.
 
-ghost use Rattle.std.specs.Prelude.{◌≡◌, ◌<◌, ◌≤◌, ◌+◌, ◌*◌, min};
+ghost use Rattle.std.specs.Prelude.{◌≡◌, ◌<◌, ◌≤◌, ◌+◌, ◌*◌};
 ghost use Rattle.pac_board.specs.SinksLaws.{by};
 ghost use Rattle.pac_board.specs.State as state;
 ghost use Rattle.pac_board.specs.Step.{frame_ticks};
-ghost use Rattle.pac_board.specs.StopsProofs.{PassesBy};
-ghost use Rattle.pac_board.specs.Trails.{IsNoted};
 ghost use Rattle.pac_inputs.specs.Stretches.{most_frames, total_frames};
-ghost use Rattle.pac_board_course.specs.Course.{next_in};
-ghost use Rattle.pac_board_course.specs.Frames.{frame_end};
-ghost use Rattle.pac_board_course.specs.Told.{PlaysTold};
+ghost use Rattle.pac_board_course.specs.Frames.{GoesTold};
 
 use crate::course::hold;
 use pac_board::{Board, FRAME_TICKS, Refused, Sink, Stop, Stops, Trail};
@@ -32,14 +28,10 @@ pub fn go<S: Sink>(
     requires early { board.old.state.now.time < frame_ticks * (gone + total_frames script.now) }
     requires begun { board.old.state.now.time < limit }
     requires nothing { board.old.state.due ≡ state.nothing_due }
-    ensures made { PlaysTold (by S.took S.refused)
-        (record { board = board.old; script = script.now; gone = gone }) sink.old result
-        (record { board = board.new; script = script.now; gone = gone }) sink.new }
-    ensures told { IsNoted (next_in (record { board = board.old; script = script.now; gone = gone }))
-        (min limit (frame_end (record { board = board.old; script = script.now; gone = gone })))
-        board.old.state.now board.new.state.now told.old told.new }
-    ensures passes { PassesBy (next_in (record { board = board.old; script = script.now; gone = gone })) stops.now
-        board.old.state.now board.new.state.now.steps }
+    ensures { GoesTold (by S.took S.refused)
+        (record { board = board.old; script = script.now; gone = gone }) limit stops.now told.old
+        sink.old result
+        (record { board = board.new; script = script.now; gone = gone }) told.new sink.new }
 {
     let frame = board.time() / FRAME_TICKS + 1;
     let blank = FRAME_TICKS * frame;

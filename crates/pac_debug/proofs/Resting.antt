@@ -1,18 +1,11 @@
 -- Each motion comes to rest, and each command is answered: so all lines tell something.
-use Rattle.std.proofs.Common.{◌≡◌, ℕ, zero, suc, ◌+◌, ◌-◌, ◌*◌, ◌==◌, ◌<◌, ◌≤◌, nat_le, nat_lt, Bool, true, false, not, ◌||◌}
-use Rattle.std.proofs.Common.{filter, Option, None, Some, Result, Ok, Err, List, [], ◌∷◌, ◌++◌, length, refl, sym, ap, subst, ◌∙◌}
+use Rattle.std.proofs.Common.{◌≡◌, ℕ, ◌+◌, ◌-◌, ◌==◌, ◌<◌, ◌≤◌, nat_le, nat_lt, Bool, true, false, not, ◌||◌}
+use Rattle.std.proofs.Common.{filter, Option, None, Some, Result, Ok, Err, List, [], ◌∷◌, ◌++◌, length, refl, sym, subst}
 use Rattle.std.proofs.Common.{length-append, arith, rules}
 use Rattle.std.proofs.lemmas.Bool.Decides.{nat_tests}
 use Rattle.std.proofs.lemmas.List.Filters.{length-filter_both}
 use mathlib.Core.Logic.{inl, inr}
 use Rattle.pac_board.specs.Stop.{Stop}
-use Rattle.pac_board.specs.BoardView.{BoardView, power_on_board_view}
-use Rattle.pac_board.specs.Trace.{by_view, frame_steps}
-use Rattle.pac_board.specs.Walk.{Walk, onward_if}
-use Rattle.pac_board.specs.WalkLaws.{has_ended}
-use Rattle.pac_board.proofs.Runs.{runs-end}
-use Rattle.pac_board.proofs.Walks.{ended-for-good, not-both}
-use Rattle.pac_debug_session.specs.Stretches.{total_frames}
 use Rattle.pac_debug_text.specs.declared.command.Command.{Command}
 use Rattle.pac_debug_text.specs.declared.command.Command.TheVariants as commands
 use Rattle.pac_debug_text.specs.declared.command.NoCommand.{NoCommand}
@@ -25,8 +18,9 @@ use Rattle.pac_debug_session.specs.declared.motion.MotionEnd.TheVariants.{AtStop
 use Rattle.pac_debug_session.specs.declared.motion.Motion.{Motion}
 use Rattle.pac_debug_session.specs.declared.motion.Motion.TheVariants as motions
 use Rattle.pac_debug_session.specs.Motions.{RestsBy, HasTravelled, rests, has_met, moved_to, oldest_index, back_to}
-use Rattle.pac_debug_session.specs.Running.{Setting, IsLeast, play_of, run, next_from, limit, is_late, stop_in, stop_at, goes_at}
+use Rattle.pac_debug_session.specs.Running.{is_late, stop_at, goes_at}
 use Rattle.pac_debug_session.specs.Session.{SessionValue, has_breakpoint, most_breakpoints}
+use Rattle.pac_debug_session.proofs.Ends.{most, over-later, search-up}
 use Rattle.pac_debug_session.proofs.Travelled.{met-by}
 use Rattle.pac_debug.specs.declared.answer.Answer.{Answer}
 use Rattle.pac_debug.specs.declared.answer.Answer.TheVariants as answers
@@ -35,57 +29,6 @@ use Rattle.pac_debug.specs.Obeying.{AnswersBack, AnswersReturn, SetsBreakpoint, 
 use Rattle.pac_debug.specs.Watched.{takes_all, TellsOfCommand}
 use Rattle.pac_debug.specs.Laws.{AllLinesTell}
 use Rattle.pac_debug.proofs.Telling.{all-taken, told-then}
-
--- ---- the least index
-
-record Found (test : ℕ → Bool) (from : ℕ) : Type 0 where
-  pub index : ℕ
-  pub least : IsLeast test from index
-
-module _ (test : ℕ → Bool) (from : ℕ) where
-  found-here : test from ≡ true → Found test from
-  found-here met = search rules
-
-  found-later : test from ≡ false → Found test (suc from) → Found test from
-  found-later unmet found = search rules
-
-  found-either : (b : Bool) → test from ≡ b → Found test (suc from) → Found test from
-  found-either b e found = grind (arith, found-here, found-later)
-
-search-up : (test : ℕ → Bool) (n from : ℕ) → test (from + n) ≡ true → Found test from
-search-up test zero from met = let same : from ≡ from + zero = omega arith in found-here test from (ap test same ∙ met)
-search-up test (suc n) from met =
-    let same : suc from + n ≡ from + suc n = omega arith in
-    found-either test from (test from) refl (search-up test n (suc from) (ap test same ∙ met))
-
--- ---- a run ends
-
-module _ (setting : Setting) where
-  onward-stopped : (w : Walk BoardView) (stop : Stop) (met : Option Stop) (late : Bool)
-      → (w.stop ≡ Some stop → stop_in (next_from setting w.now) ≡ Some stop)
-      → (onward_if (next_from setting) w met late).stop ≡ Some stop
-      → stop_in (next_from setting (onward_if (next_from setting) w met late).now) ≡ Some stop
-  onward-stopped w stop met late before e = search rules
-
-  stopped-there : (index : ℕ) (stop : Stop) → (run setting index).stop ≡ Some stop → stop_at setting index ≡ Some stop
-  stopped-there zero stop e = absurd (cc)
-  stopped-there (suc index) stop e =
-      let w = run setting index in
-      onward-stopped w stop w.stop (nat_le (limit setting) w.now.time) (stopped-there index stop) e
-
-  -- where it has ended it goes no further
-  over : (index : ℕ) → has_ended (limit setting) (run setting index) ≡ true → not (goes_at setting index) ≡ true
-  over index ended = grind (arith, not-both, stopped-there)
-
-  abbrev last : ℕ
-  last = frame_steps * total_frames setting.script
-
-  over-later : (from : ℕ) → not (goes_at setting (from + last)) ≡ true
-  over-later from =
-      let same : from + last ≡ last + from = omega arith in
-      let ended = (runs-end (by_view setting.set) (play_of setting.script) (power_on_board_view setting.switches) last).0 in
-      let stays = ended-for-good (next_from setting) (limit setting) (run setting 0).now last from (from + last) same ended in
-      over (from + last) (ap (has_ended (limit setting)) stays ∙ ended)
 
 -- ---- each motion comes to rest
 
@@ -115,8 +58,8 @@ module _ (s : SessionValue) (motion : Motion) where
   pub comes-to-rest : ComesToRest
   comes-to-rest =
       let found =
-      search-up (rests s motion s.index) (last s.setting) s.index
-      (rests-over (has_met s motion s.index (s.index + last s.setting)) (s.index + last s.setting) (over-later s.setting s.index)) in
+      search-up (rests s motion s.index) (most s.setting) s.index
+      (rests-over (has_met s motion s.index (s.index + most s.setting)) (s.index + most s.setting) (over-later s.setting s.index)) in
       let index = found.index in
       let rest = rests-by index (is_late s.setting index) (has_met s motion s.index index) refl refl found.least.here in
       record {

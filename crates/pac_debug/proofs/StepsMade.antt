@@ -206,11 +206,11 @@ unended goes e = search rules
 -- up to the furthest index the trace goes on
 within-trace : (s : SessionValue) → Stands s → s.furthest ≤ (whole_run s.setting).now.steps
 within-trace s stands =
-    let end = run-ends s.setting s.furthest stands.goes in
-    let goes : (earlier : ℕ) → earlier < end.0 → goes_at s.setting earlier ≡ true
-    = λ earlier less. before end.0 earlier less end.1.none_before (nat_lt earlier s.furthest) refl in
-    let whole = whole-at-end s.setting end.0 goes end.1.here in
-    let steps = ap (λ (now : Moment BoardView). now.steps) whole ∙ (open-up-to s.setting end.0 goes).steps in
+    let end = run-ends s.setting s.furthest in
+    let goes : (earlier : ℕ) → earlier < end.index → goes_at s.setting earlier ≡ true
+    = λ earlier less. before end.index earlier less end.least.none_before (nat_lt earlier s.furthest) refl in
+    let whole = whole-at-end s.setting end.index goes end.least.here in
+    let steps = ap (λ (now : Moment BoardView). now.steps) whole ∙ (open-up-to s.setting end.index goes).steps in
     omega (arith, steps)
   where
     before : (end earlier : ℕ) → earlier < end

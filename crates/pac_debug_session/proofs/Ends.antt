@@ -1,20 +1,43 @@
 -- Where a run goes no further: there is a first such index, and up to a step that was counted it goes on.
-use Rattle.std.proofs.Common.{◌≡◌, ℕ, zero, suc, ◌+◌, ◌-◌, ◌*◌, ◌<◌, ◌≤◌, Bool, true, false, not, ◌&&◌, is_none, None, nat_le, nat_lt}
-use Rattle.std.proofs.Common.{refl, ap, ◌∙◌, arith}
+use Rattle.std.proofs.Common.{◌≡◌, ℕ, zero, suc, ◌+◌, ◌-◌, ◌*◌, ◌≤◌, Bool, true, false, not, ◌&&◌, is_none, Option, None, Some, nat_le}
+use Rattle.std.proofs.Common.{refl, ap, ◌∙◌, arith, rules}
 use Rattle.std.proofs.lemmas.Bool.Decides.{nat_tests}
+use Rattle.pac_board_course.specs.Stop.{Stop}
 use Rattle.pac_board_course.specs.Stretches.{total_frames}
 use Rattle.pac_board_course.specs.BoardView.{BoardView, power_on_board_view}
 use Rattle.pac_board_course.specs.Step.{Moment, Next, Goes, Ends}
 use Rattle.pac_board_course.specs.Trace.{by_view, frame_steps}
-use Rattle.pac_board_course.specs.Walk.{Walk, walk_after_step}
+use Rattle.pac_board_course.specs.Walk.{Walk, onward_if, walk_after_step}
 use Rattle.pac_board_course.specs.WalkLaws.{has_ended}
 use Rattle.pac_board_course.proofs.Runs.{runs-end}
-use Rattle.pac_board_course.proofs.Walks.{going-before, going-far, going-is-early, going-steps, ended-for-good, open-is-late}
+use Rattle.pac_board_course.proofs.Walks.{going-before, going-far, going-is-early, going-steps, ended-for-good, not-both}
 use Rattle.pac_board_course.proofs.Walks.{stopped-has-ended}
 use Rattle.pac_board_course.proofs.Counted.{going-if-counted}
 use Rattle.pac_debug_session.specs.Running.{Setting, IsLeast, play_of, run, now_at, next_from, next_at, limit, is_late, stop_in, stop_at}
 use Rattle.pac_debug_session.specs.Running.{goes_at}
-use Rattle.pac_debug_session.proofs.Indices.{open-up-to, timely, goes-early, early-time}
+use Rattle.pac_debug_session.proofs.Indices.{timely}
+
+-- ---- the least index
+
+pub record Found (test : ℕ → Bool) (from : ℕ) : Type 0 where
+  pub index : ℕ
+  pub least : IsLeast test from index
+
+module _ (test : ℕ → Bool) (from : ℕ) where
+  found-here : test from ≡ true → Found test from
+  found-here met = search rules
+
+  found-later : test from ≡ false → Found test (suc from) → Found test from
+  found-later unmet found = search rules
+
+  found-either : (b : Bool) → test from ≡ b → Found test (suc from) → Found test from
+  found-either b e found = grind (arith, found-here, found-later)
+
+pub search-up : (test : ℕ → Bool) (n from : ℕ) → test (from + n) ≡ true → Found test from
+search-up test zero from met = let same : from ≡ from + zero = omega arith in found-here test from (ap test same ∙ met)
+search-up test (suc n) from met =
+    let same : suc from + n ≡ from + suc n = omega arith in
+    found-either test from (test from) refl (search-up test n (suc from) (ap test same ∙ met))
 
 module _ (setting : Setting) where
   -- the moment of power-on
@@ -60,68 +83,32 @@ module _ (setting : Setting) where
 
   -- ---- the first index at which it goes no further
 
-  -- it goes no further than the most steps of its frames
-  abbrev most : ℕ
+  onward-stopped : (w : Walk BoardView) (stop : Stop) (met : Option Stop) (late : Bool)
+      → (w.stop ≡ Some stop → stop_in (next_from setting w.now) ≡ Some stop)
+      → (onward_if (next_from setting) w met late).stop ≡ Some stop
+      → stop_in (next_from setting (onward_if (next_from setting) w met late).now) ≡ Some stop
+  onward-stopped w stop met late before e = search rules
+
+  stopped-there : (index : ℕ) (stop : Stop) → (run setting index).stop ≡ Some stop → stop_at setting index ≡ Some stop
+  stopped-there zero stop e = absurd (cc)
+  stopped-there (suc index) stop e =
+      let w = run setting index in
+      onward-stopped w stop w.stop (nat_le (limit setting) w.now.time) (stopped-there index stop) e
+
+  -- where it has ended it goes no further
+  over : (index : ℕ) → has_ended (limit setting) (run setting index) ≡ true → not (goes_at setting index) ≡ true
+  over index ended = grind (arith, not-both, stopped-there)
+
+  -- that is so after the most steps of its frames
+  abbrev pub most : ℕ
   most = frame_steps * total_frames setting.script
 
-  not-past : {A : Type 0} → ((earlier : ℕ) → earlier < suc most → goes_at setting earlier ≡ true) → A
-  not-past goes =
-      let opened = open-up-to setting most (λ earlier less. goes earlier (omega arith)) in
-      let early = early-time setting most (goes-early setting most (goes most (omega arith))) in
+  pub over-later : (from : ℕ) → not (goes_at setting (from + most)) ≡ true
+  over-later from =
+      let same : from + most ≡ most + from = omega arith in
       let ended = (runs-end (by_view setting.set) (play_of setting.script) (power_on_board_view setting.switches) most).0 in
-      let late = open-is-late (limit setting) (run setting most) ended opened.open_yet in
-      absurd (omega (arith, early, late))
+      let stays = ended-for-good (next_from setting) (limit setting) start most from (from + most) same ended in
+      over (from + most) (ap (has_ended (limit setting)) stays ∙ ended)
 
-  abbrev pub HasEnd : ℕ → Type 0
-  HasEnd from = (index : ℕ) × IsLeast (λ index. not (goes_at setting index)) from index
-
-  ends-here : (from : ℕ) → goes_at setting from ≡ false → HasEnd from
-  ends-here from over = (
-    from,
-    record { after = omega arith; here = ap not over; none_before = λ earlier after less. absurd (omega arith) },
-  )
-
-  ends-later : (from : ℕ) → goes_at setting from ≡ true → HasEnd (suc from) → HasEnd from
-  ends-later from goes rest = (
-    rest.0,
-    record {
-      after = let after = rest.1.after in omega arith;
-      here = rest.1.here;
-      none_before = λ earlier after less. choose earlier after less (nat_lt from earlier) refl;
-    },
-  )
-    where
-      choose : (earlier : ℕ) → from ≤ earlier → earlier < rest.0 → (b : Bool) → nat_lt from earlier ≡ b
-          → not (goes_at setting earlier) ≡ false
-      choose earlier after less true e = rest.1.none_before earlier (grind (arith, nat_tests)) less
-      choose earlier after less false e =
-          let same : earlier ≡ from = grind (arith, nat_tests) in ap (λ n. not (goes_at setting n)) same ∙ ap not goes
-
-  -- up to an index and there is up to the next one
-  one-further : (from : ℕ) → ((earlier : ℕ) → earlier < from → goes_at setting earlier ≡ true) → goes_at setting from ≡ true
-      → (earlier : ℕ) → earlier < suc from → (b : Bool) → nat_lt earlier from ≡ b → goes_at setting earlier ≡ true
-  one-further from goes here earlier less true e = goes earlier (grind (arith, nat_tests))
-  one-further from goes here earlier less false e =
-      let same : earlier ≡ from = grind (arith, nat_tests) in ap (goes_at setting) same ∙ here
-
-  ends-either : (from : ℕ) (b : Bool) → goes_at setting from ≡ b → (goes_at setting from ≡ true → HasEnd (suc from)) → HasEnd from
-  ends-either from false over rest = ends-here from over
-  ends-either from true here rest = ends-later from here (rest here)
-
-  ends-within : (count from : ℕ) → from + count ≡ suc most → ((earlier : ℕ) → earlier < from → goes_at setting earlier ≡ true)
-      → HasEnd from
-  ends-within zero from all goes = not-past (λ earlier less. goes earlier (omega arith))
-  ends-within (suc count) from all goes =
-      ends-either from (goes_at setting from) refl
-      (λ here.
-      ends-within count (suc from) (omega arith)
-      (λ earlier less. one-further from goes here earlier less (nat_lt earlier from) refl))
-
-  pub run-ends : (from : ℕ) → ((earlier : ℕ) → earlier < from → goes_at setting earlier ≡ true) → HasEnd from
-  run-ends from goes = choose (nat_le from (suc most)) refl
-    where
-      choose : (b : Bool) → nat_le from (suc most) ≡ b → HasEnd from
-      choose true e =
-          let less : from ≤ suc most = grind (arith, nat_tests) in ends-within (suc most - from) from (omega arith) goes
-      choose false e =
-          let past : suc most < from = grind (arith, nat_tests) in not-past (λ earlier less. goes earlier (omega arith))
+  pub run-ends : (from : ℕ) → Found (λ index. not (goes_at setting index)) from
+  run-ends from = search-up (λ index. not (goes_at setting index)) most from (over-later from)

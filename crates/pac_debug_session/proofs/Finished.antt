@@ -13,9 +13,9 @@ use Rattle.pac_debug_session.specs.declared.motion.MotionEnd.{MotionEnd}
 use Rattle.pac_debug_session.specs.declared.motion.MotionEnd.TheVariants.{AtStop, AtEnd, AtBreakpoint, AtFrame, AtStep}
 use Rattle.pac_debug_session.specs.declared.motion.Motion.TheVariants.{ToEnd}
 use Rattle.pac_debug_session.specs.Motions.{rests, RestsBy, moved_to, HasTravelled}
-use Rattle.pac_debug_session.specs.MotionsLaws.{IsTravelRefused, IsOutcome, IsFinishRefused}
-use Rattle.pac_debug_session.specs.MotionsProofs.{IsFinished}
-use Rattle.pac_debug_session.specs.Running.{Setting, run, goes_at, outputs_between}
+use Rattle.pac_debug_session.specs.MotionsLaws.{IsTravelRefused, IsFinishRefused}
+use Rattle.pac_debug_session.specs.MotionsProofs.{IsFinished, stop_of}
+use Rattle.pac_debug_session.specs.Running.{Setting, now_at, run, goes_at, outputs_between}
 use Rattle.pac_debug_session.specs.RunningLaws.{whole_run, outputs_from}
 use Rattle.pac_debug_session.specs.Session.{SessionValue}
 use Rattle.pac_debug_session.specs.SessionLaws.{IsSession, session_due_outputs}
@@ -34,7 +34,7 @@ unended true e = refl
 unended false e = not-both e
 
 -- why it rests, said of where it is then
-pub rests-there : (mid new : SessionValue) (from index : ℕ) (why : MotionEnd) → new ≡ moved_to mid index
+rests-there : (mid new : SessionValue) (from index : ℕ) (why : MotionEnd) → new ≡ moved_to mid index
     → RestsBy mid ToEnd from index why → RestsBy new ToEnd from index why
 rests-there mid new from index AtEnd is rest =
     subst (λ (s : SessionValue). RestsBy s ToEnd from index AtEnd) (sym is) rest
@@ -62,7 +62,8 @@ module _ {S : Type 0} (to : Giving S) (old : SessionValue) (sink between : S)
   begun-again = record old { due = nothing_due; replayed = 0 }
 
   pub finished : (mid new : SessionValue) (later : S) (why : MotionEnd) (outcome : Outcome) → mid ≡ begun-again
-      → HasTravelled to.took mid ToEnd between why new later → IsOutcome new outcome → IsSession new
+      → HasTravelled to.took mid ToEnd between why new later
+      → outcome ≡ outcome_at (now_at new.setting new.index) (stop_of why) → IsSession new
       → IsFinished to.took old sink outcome new later
   finished mid new later why outcome mid_is travelled ended facts =
       let gone = subst (λ (s : SessionValue). HasTravelled to.took s ToEnd between why new later) mid_is travelled in
@@ -83,7 +84,8 @@ module _ {S : Type 0} (to : Giving S) (old : SessionValue) (sink between : S)
           none_before = λ earlier from less.
               sym (rests-at-end begun-again old.index earlier) ∙ gone.rest.none_before earlier from less;
         };
-        outcome_is = ended ∙ ap (λ (kept : Setting). outcome_at (whole_run kept).now (whole_run kept).stop) setting;
+        outcome_is = ended ∙ (λ i. outcome_at (sym whole.now i) (sym whole.stop_is i))
+            ∙ ap (λ (kept : Setting). outcome_at (whole_run kept).now (whole_run kept).stop) setting;
         session = gone.session;
         sink_is =
             subst (λ xs. TookAll to.took sink (session_due_outputs old ++ xs) later) rest_is

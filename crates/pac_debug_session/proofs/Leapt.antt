@@ -1,7 +1,6 @@
--- Steps of a session in one go, over plain values: what stands before them stands after them.
-use Rattle.std.proofs.Common.{◌≡◌, ℕ, zero, suc, ◌+◌, ◌-◌, ◌*◌, ◌/◌, ◌%◌, ◌^◌, ◌==◌, ◌<◌, ◌≤◌, Bool, true, false, min, max, nat_lt}
-use Rattle.std.proofs.Common.{if◌then◌else◌}
-use Rattle.std.proofs.Common.{Option, None, Some, Result, Ok, Err, List, [], ◌∷◌, ◌++◌, refl, sym, ap, subst, ◌∙◌, arith}
+-- Steps of a session in one go, by what the course's call answered: what stands before them stands after them.
+use Rattle.std.proofs.Common.{◌≡◌, ℕ, zero, suc, ◌+◌, ◌-◌, ◌*◌, ◌/◌, ◌%◌, ◌==◌, ◌<◌, ◌≤◌, Bool, true, false, min, max, nat_lt}
+use Rattle.std.proofs.Common.{if◌then◌else◌, Option, None, Some, Result, Ok, Err, List, [], ◌∷◌, ◌++◌, refl, sym, ap, subst, ◌∙◌, arith}
 use Rattle.std.specs.List.{list_any}
 use Rattle.std.proofs.lemmas.Bool.Decides.{nat_tests}
 use Rattle.circular_buffer.specs.Buffer.{keep_last}
@@ -10,213 +9,195 @@ use Rattle.pac_board_course.specs.TurnsProofs.{board_at}
 use Rattle.pac_board_course.specs.BoardView.{BoardView}
 use Rattle.pac_board_course.specs.Calls.{now_after}
 use Rattle.pac_board_course.specs.Course.{CourseValue, next_in, way_walked}
-use Rattle.pac_board_course.specs.Frames.{frame_end}
+use Rattle.pac_board_course.specs.Frames.{GoesTold, HasEndedBy, frame_end}
 use Rattle.pac_board_course.specs.ModelLaws.{IsTimely}
 use Rattle.pac_board_course.specs.PastStep.{PastStep}
 use Rattle.pac_board_course.specs.SinksLaws.{Giving}
 use Rattle.pac_board_course.specs.Sinks.{TookAll}
-use Rattle.pac_board_course.specs.State.{BoardValue, nothing_due, due_outputs, due_outputs_in, steps_counted}
+use Rattle.pac_board_course.specs.State.{BoardValue, due_outputs_in, steps_counted}
 use Rattle.pac_board_course.specs.Step.{Moment, Next, Goes, frame_ticks}
 use Rattle.pac_board_course.specs.Stop.{Stop}
-use Rattle.pac_board_course.specs.StopsProofs.{PassesBy}
-use Rattle.pac_board_course.specs.Stretch.{Stretch}
-use Rattle.pac_board_course.specs.Plays.{IsCourseHeldUp}
-use Rattle.pac_board_course.specs.Told.{HasEndedBy, PlaysTold}
-use Rattle.pac_board_course.specs.Trails.{noted_step, stepped, noted, IsNoted}
+use Rattle.pac_board_course.specs.Trails.{noted_step, stepped, noted, told_of}
 use Rattle.pac_board_course.specs.Walk.{Walk}
 use Rattle.pac_board_course.proofs.Sinks.{cut-along, cut-something}
-use Rattle.pac_debug_session.specs.Breakpoints.{AreStops}
-use Rattle.pac_debug_session.specs.Inside.{IsStanding}
-use Rattle.pac_debug_session.specs.Keeping.{Ring, kept_of, ring_after_index}
+use Rattle.pac_board_course.proofs.Trails.{kept-joined}
+use Rattle.pac_debug_session.specs.Breakpoints.{AreStops, heeded_if}
+use Rattle.pac_debug_session.specs.Inside.{IsStanding, IsInsideRight, session_view}
+use Rattle.pac_debug_session.specs.declared.motion.Motion.{Motion}
+use Rattle.pac_debug_session.specs.declared.session.Session.TheInside.{Inside}
+use Rattle.pac_debug_session.specs.Keeping.{Ring}
 use Rattle.pac_debug_session.specs.Motions.{checkpoint_steps, moved_to}
 use Rattle.pac_debug_session.specs.Past.{past_steps, past_of, told_at, told_step_count}
 use Rattle.pac_debug_session.specs.Playing.{course_of}
-use Rattle.pac_debug_session.specs.Running.{Setting, now_at, next_from, stop_in, stop_at, goes_at, outputs_between}
+use Rattle.pac_debug_session.specs.Running.{now_at, stop_in, goes_at, outputs_between}
 use Rattle.pac_debug_session.specs.Session.{SessionValue}
-use Rattle.pac_debug_session.specs.SessionLaws.{IsSession, session_due_outputs}
-use Rattle.pac_debug_session.specs.Strides.{MeetNothing, IsLeap, LeapEnds, IsLeapt, IsLeapRefused, Leaps, IsStrideRefused, StepsOn}
-use Rattle.pac_board_course.specs.Trails.{told_of}
+use Rattle.pac_debug_session.specs.Strides.{MeetNothing, IsLeap, LeapEnds, IsLeapt, HasLeapt, IsLeapRefused, Leaps, stop_unless}
+use Rattle.pac_debug_session.specs.Strides.{HasStrode, Strides, heeds, heeded_by, longest_stride}
 use Rattle.pac_debug_session.proofs.Ends.{goes-if-counted}
 use Rattle.pac_debug_session.proofs.Forwards.{between-self}
-use Rattle.pac_board_course.proofs.Trails.{kept-joined}
 use Rattle.pac_debug_session.proofs.Indices.{IsOpen, open-up-to, one-more, goes-on, goes-early, timely}
-use Rattle.pac_debug_session.proofs.PlayedOn.{run-walked, given-walked}
-use Rattle.pac_debug_session.proofs.Steppings.{with_board, IsLeft, left, next-same, value-after}
+use Rattle.pac_debug_session.proofs.PlayedOn.{run-walked, given-walked, steps-same}
+use Rattle.pac_debug_session.proofs.Steppings.{IsLeft}
 
--- ---- step by step
+-- a session on a board further on, and that board's course
+abbrev pub session_on : SessionValue → BoardValue → SessionValue
+session_on old b = record old {
+  setting = record old.setting { set = b.set };
+  index = b.state.now.steps;
+  furthest = max old.furthest b.state.now.steps;
+  due = b.state.due;
+  made = b.made;
+}
 
-module _ (setting : Setting) (index count : ℕ) (next : Moment BoardView → Next BoardView)
-    (same : (now : Moment BoardView) → next now ≡ next_from setting now) (history : List PastStep)
-    (told_here : history ≡ told_at setting index) (from : Moment BoardView) (from_is : from ≡ now_at setting index)
-    (goes : (earlier : ℕ) → earlier < index + count → goes_at setting earlier ≡ true) where
-  pub record IsReached (n : ℕ) : Type 0 where
-    pub now_is : now_at setting (index + n) ≡ stepped next from n
-    pub time : from.time + 4 * n ≤ (now_at setting (index + n)).time
-    pub told : Some (told_at setting (index + n)) ≡ noted next from (Some history) n
+abbrev pub course_on : SessionValue → BoardValue → CourseValue
+course_on old b = record { board = b; script = old.setting.script; gone = 0 }
 
-  pub reached : (n : ℕ) → n ≤ count → IsReached n
-  reached zero within =
-      let here : index + 0 ≡ index = omega arith in
-      let now_is = ap (now_at setting) here ∙ sym from_is in
+-- what the call answered, said of the run
+abbrev pub Gone : {S E : Type 0} → SessionValue → Giving S → (sink later : S) → (limit : ℕ) → (stops : Option (List ℕ)) → BoardValue
+    → List PastStep → Result (Option Stop) E → Type 0
+Gone old to sink later limit stops new told result =
+    GoesTold to (course_of old) limit stops (Some (told_at old.setting old.index)) sink result (course_on old new) (Some told) later
+
+module _ (old : SessionValue) (within : old.index ≤ old.furthest)
+    (goes : (earlier : ℕ) → earlier < old.furthest → goes_at old.setting earlier ≡ true) where
+  abbrev next : Moment BoardView → Next BoardView
+  next = next_in (course_of old)
+
+  abbrev from : Moment BoardView
+  from = now_at old.setting old.index
+
+  abbrev told_here : Option (List PastStep)
+  told_here = Some (told_at old.setting old.index)
+
+  abbrev seen_on : BoardValue → SessionValue
+  seen_on = session_on old
+
+  opened : IsOpen old.setting old.index
+  opened = open-up-to old.setting old.index (λ earlier less. goes earlier (omega arith))
+
+  -- ---- step by step
+
+  record IsReached (n : ℕ) : Type 0 where
+    pub now_is : now_at old.setting (old.index + n) ≡ stepped next from n
+    pub time : from.time + 4 * n ≤ (now_at old.setting (old.index + n)).time
+    pub told : Some (told_at old.setting (old.index + n)) ≡ noted next from told_here n
+
+  reached : (n : ℕ) → ((earlier : ℕ) → earlier < old.index + n → goes_at old.setting earlier ≡ true) → IsReached n
+  reached zero on =
+      let here : old.index + 0 ≡ old.index = omega arith in
+      let now_is = ap (now_at old.setting) here in
       let time = ap (λ (m : Moment BoardView). m.time) now_is in
-      record {
-        now_is = now_is;
-        time = omega arith;
-        told = ap (λ n. Some (told_at setting n)) here ∙ ap Some (sym told_here);
-      }
-  reached (suc n) within =
-      let before = reached n (omega arith) in
-      let place : ℕ = index + n in
-      let there = now_at setting place in
+      record { now_is = now_is; time = omega arith; told = ap (λ n. Some (told_at old.setting n)) here }
+  reached (suc n) goes =
+      let before = reached n (λ earlier less. goes earlier (omega arith)) in
+      let place : ℕ = old.index + n in
+      let there = now_at old.setting place in
       let here = goes place (omega arith) in
-      let on = goes-on setting place here in
-      let opened = open-up-to setting place (λ earlier less. goes earlier (omega arith)) in
-      let one = one-more setting place on.now on.outputs on.kind opened (goes-early setting place here) on.is in
-      let following : suc place ≡ index + suc n = omega arith in
-      let times = subst (λ (h : Next BoardView). IsTimely there h) on.is (timely setting there) in
+      let on = goes-on old.setting place here in
+      let so_open = open-up-to old.setting place (λ earlier less. goes earlier (omega arith)) in
+      let one = one-more old.setting place on.now on.outputs on.kind so_open (goes-early old.setting place here) on.is in
+      let following : suc place ≡ old.index + suc n = omega arith in
+      let times = subst (λ (h : Next BoardView). IsTimely there h) on.is (timely old.setting there) in
       let least = times.0 in
       let so_far = before.time in
       let comes : next (stepped next from n) ≡ Goes on.now on.outputs on.kind
-      = ap next (sym before.now_is) ∙ same there ∙ on.is in
-      let now_there : now_at setting (index + suc n) ≡ on.now = ap (now_at setting) (sym following) ∙ one.now_is in
+      = ap next (sym before.now_is) ∙ steps-same old opened there ∙ on.is in
+      let now_there : now_at old.setting (old.index + suc n) ≡ on.now = ap (now_at old.setting) (sym following) ∙ one.now_is in
       let time = ap (λ (m : Moment BoardView). m.time) now_there in
       let line : List PastStep = record { index = place; pc = there.regs.pc; kind = on.kind } ∷ [] in
       record {
         now_is = now_there ∙ sym (ap (λ h. now_after h (stepped next from n)) comes);
         time = omega arith;
-        told = ap (λ n. Some (told_at setting n)) (sym following)
-            ∙ ap (λ h. Some (keep_last told_step_count (past_steps setting place ++ past_of place there h))) on.is
-            ∙ ap Some (sym (kept-joined told_step_count (past_steps setting place) line))
+        told = ap (λ n. Some (told_at old.setting n)) (sym following)
+            ∙ ap (λ h. Some (keep_last told_step_count (past_steps old.setting place ++ past_of place there h))) on.is
+            ∙ ap Some (sym (kept-joined told_step_count (past_steps old.setting place) line))
             ∙ ap (λ k. Some (keep_last told_step_count
-            (told_at setting place ++ record { index = k; pc = there.regs.pc; kind = on.kind } ∷ []))) (sym opened.steps)
+            (told_at old.setting place ++ record { index = k; pc = there.regs.pc; kind = on.kind } ∷ []))) (sym so_open.steps)
             ∙ ap (λ t. noted_step t there (Goes on.now on.outputs on.kind)) before.told
-            ∙ ap (λ m. noted_step (noted next from (Some history) n) m (Goes on.now on.outputs on.kind)) before.now_is
-            ∙ ap (noted_step (noted next from (Some history) n) (stepped next from n)) (sym comes);
+            ∙ ap (λ m. noted_step (noted next from told_here n) m (Goes on.now on.outputs on.kind)) before.now_is
+            ∙ ap (noted_step (noted next from told_here n) (stepped next from n)) (sym comes);
       }
 
--- ---- all of them, by what the course's call answered
+  -- ---- where the course's call leaves the board
 
-module _ (board : BoardValue) (switches : ℕ) (script : List Stretch) (history : List PastStep) (furthest : ℕ) (ring : Ring) where
-  abbrev setting : Setting
-  setting = record { set = board.set; switches = switches; script = script }
+  record IsThere (board : BoardValue) (tries : ℕ) : Type 0 where
+    pub now_is : board.state.now ≡ now_at old.setting (old.index + tries)
+    pub steps : board.state.now.steps ≡ old.index + tries
+    pub board_is : board ≡ board_at (course_of old).board board.state.now board.state.due
 
-  abbrev index : ℕ
-  index = board.state.now.steps
+  is-there : (board : BoardValue) (tries : ℕ)
+      → board ≡ board_at (course_of old).board (way_walked (course_of old) tries).now board.state.due
+      → board.state.now.steps ≡ from.steps + tries → IsThere board tries
+  is-there board tries is all =
+      let first = opened.steps in
+      let now = ap (λ (b : BoardValue). b.state.now) is in
+      record {
+        now_is = now ∙ ap (λ (w : Walk BoardView). w.now) (run-walked old opened tries);
+        steps = omega arith;
+        board_is = is ∙ ap (λ now. board_at (course_of old).board now board.state.due) (sym now);
+      }
 
-  abbrev course_on : BoardValue → CourseValue
-  course_on b = record { board = b; script = script; gone = 0 }
-
-  abbrev session_on : SessionValue
-  session_on = with_board switches script board furthest [] [] 0
-
-  abbrev pub ring_left : Ring
-  ring_left = ring_after_index index ring (kept_of board history)
-
-  -- where the board is then
-  pub record IsPlayed (new : BoardValue) (tries : ℕ) : Type 0 where
-    pub there : new.state.now ≡ now_at setting (index + tries)
-    pub all_steps : new.state.now.steps ≡ index + tries
-    pub board_is : new ≡ board_at board new.state.now new.state.due
-
-  module _ (stands : IsStanding setting board.state.now history furthest ring) (unasked : board.state.asked ≡ 0) where
-    pub opened_here : IsOpen setting index
-    opened_here = open-up-to setting index (λ earlier less. let seen = stands.within in stands.goes earlier (omega arith))
-
-    pub begins : course_on board ≡ course_of session_on
-    begins = λ i. record {
-      board = record {
-        set = board.set;
-        state = record { now = stands.now_is i; asked = unasked i; due = board.state.due };
-        made = board.made;
-      };
-      script = script;
-      gone = 0;
-    }
-
-    walked-there : (tries : ℕ) → (way_walked (course_on board) tries).now ≡ now_at setting (index + tries)
-    walked-there tries =
-        ap (λ (course : CourseValue). (way_walked course tries).now) begins
-        ∙ ap (λ (w : Walk BoardView). w.now) (run-walked session_on opened_here tries)
-
-    pub walked-given : (tries : ℕ)
-        → outputs_between setting index (index + tries) ≡ (way_walked (course_on board) tries).outputs
-    walked-given tries =
-        given-walked session_on opened_here tries ∙ sym (ap (λ (course : CourseValue). (way_walked course tries).outputs) begins)
-
-    pub where-played : {S E : Type 0} (to : Giving S) (new : BoardValue) (sink later : S) (result : Result (Option Stop) E)
-        → PlaysTold to (course_on board) sink result (course_on new) later → (tries : ℕ) × IsPlayed new tries
-    where-played to new sink later (Ok stop) made =
-        let is = ap (λ (c : CourseValue). c.board) made.played.course in (
-          made.played.steps,
-          record {
-            there = ap (λ (b : BoardValue). b.state.now) is ∙ walked-there made.played.steps;
-            all_steps = made.played.all_steps;
-            board_is = is ∙ ap (λ (b : BoardValue). board_at board b.state.now b.state.due) (sym is);
-          },
+  module _ {S : Type 0} (to : Giving S) (sink later : S) (limit : ℕ) (stops : Option (List ℕ)) (new : BoardValue)
+      (told : List PastStep) where
+    there : {E : Type 0} (result : Result (Option Stop) E) → Gone old to sink later limit stops new told result
+        → (tries : ℕ) × IsThere new tries
+    there (Ok stop) gone =
+        let played = gone.made.played in
+        let due = ap (λ (c : CourseValue). c.board.state.due) played.course in
+        let is = ap (λ (c : CourseValue). c.board) played.course in (
+          played.steps,
+          is-there new played.steps
+              (is ∙ ap (board_at (course_of old).board (way_walked (course_of old) played.steps).now) (sym due)) played.all_steps,
         )
-    where-played to new sink later (Err refusal) made =
-        let is = ap (λ (c : CourseValue). c.board) made.course in (
-          made.steps,
-          record {
-            there = ap (λ (b : BoardValue). b.state.now) is ∙ walked-there made.steps;
-            all_steps = made.all_steps;
-            board_is = is ∙ ap (λ (b : BoardValue). board_at board b.state.now b.state.due) (sym is);
-          },
-        )
+    there (Err refusal) gone =
+        (gone.made.steps, is-there new gone.made.steps (ap (λ (c : CourseValue). c.board) gone.made.course) gone.made.all_steps)
 
-    module _ (limited : ℕ) (new : BoardValue) (told : List PastStep) (tries : ℕ) (played : IsPlayed new tries)
-        (notes : IsNoted (next_in (course_on board)) (min limited (frame_end (course_on board))) board.state.now new.state.now (Some
-        history)
-        (Some told)) where
-      counted : (now_at setting (index + tries)).steps ≡ index + tries
-      counted = sym (ap (λ (m : Moment BoardView). m.steps) played.there) ∙ played.all_steps
+    module _ {E : Type 0} (result : Result (Option Stop) E) (gone : Gone old to sink later limit stops new told result) where
+      abbrev tries : ℕ
+      tries = (there result gone).0
 
-      goes-if : (n : ℕ) → tries ≡ n → (earlier : ℕ) → earlier < index + n → goes_at setting earlier ≡ true
-      goes-if zero is earlier less = let within = stands.within in stands.goes earlier (omega arith)
-      goes-if (suc m) is earlier less =
-          let last : index + tries ≡ suc (index + m) = omega arith in
-          goes-if-counted setting (index + m) (subst (λ n. (now_at setting n).steps ≡ n) last counted) earlier (omega arith)
+      stands : IsThere new tries
+      stands = (there result gone).1
 
-      pub goes-all : (earlier : ℕ) → earlier < index + tries → goes_at setting earlier ≡ true
-      goes-all earlier less = goes-if tries refl earlier less
+      goes-all : (earlier : ℕ) → earlier < old.index + tries → goes_at old.setting earlier ≡ true
+      goes-all earlier less = choose tries refl less
+        where
+          choose : (n : ℕ) → tries ≡ n → earlier < old.index + n → goes_at old.setting earlier ≡ true
+          choose zero is less = goes earlier (omega arith)
+          choose (suc m) is less =
+              let last : old.index + tries ≡ suc (old.index + m) = omega arith in
+              let counted = sym (ap (λ (m : Moment BoardView). m.steps) stands.now_is) ∙ stands.steps in
+              goes-if-counted old.setting (old.index + m) (subst (λ n. (now_at old.setting n).steps ≡ n) last counted) earlier (omega arith)
 
-      as-many : notes.count ≡ tries
-      as-many = let steps = notes.steps in let all = played.all_steps in omega arith
+      reached-here : (n : ℕ) → n ≤ tries → IsReached n
+      reached-here n less = reached n (λ earlier before. goes-all earlier (omega arith))
 
-      reached-here : (n : ℕ) → n ≤ tries
-          → IsReached setting index tries (next_in (course_on board)) (next-same board switches script history furthest ring) history
-          stands.history_is board.state.now stands.now_is goes-all n
-      reached-here n within =
-          reached setting index tries (next_in (course_on board)) (next-same board switches script history furthest ring) history
-          stands.history_is board.state.now stands.now_is goes-all n within
+      as-many : gone.told_is.count ≡ tries
+      as-many = let first = opened.steps in let steps = gone.told_is.steps in let all = stands.steps in omega arith
 
-      pub told-there : told ≡ told_at setting new.state.now.steps
+      told-there : told ≡ told_at old.setting new.state.now.steps
       told-there =
-          let last = reached-here tries (omega arith) in
           ap told_of
-          (notes.told_is ∙ ap (noted (next_in (course_on board)) board.state.now (Some history)) as-many ∙ sym last.told)
-          ∙ ap (told_at setting) (sym played.all_steps)
+          (gone.told_is.told_is ∙ ap (noted next from told_here) as-many ∙ sym (reached-here tries (omega arith)).told)
+          ∙ ap (told_at old.setting) (sym stands.steps)
 
       -- each of them begins before the limit, and in the frame under way
-      begun-at : (n : ℕ) → n < tries → (now_at setting (index + n)).time < min limited (frame_end (course_on board))
+      begun-at : (n : ℕ) → n < tries → (now_at old.setting (old.index + n)).time < min limit (frame_end (course_of old))
       begun-at n less =
           let so_many = as-many in
-          let here = reached-here n (omega arith) in
-          subst (λ (m : Moment BoardView). m.time < min limited (frame_end (course_on board))) (sym here.now_is)
-          (notes.begun n (omega arith))
+          subst (λ (m : Moment BoardView). m.time < min limit (frame_end (course_of old))) (sym (reached-here n (omega arith)).now_is)
+          (gone.told_is.begun n (omega arith))
 
-      frame-at : (n : ℕ) → n < tries → (now_at setting (index + n)).time / frame_ticks ≡ board.state.now.time / frame_ticks
+      frame-at : (n : ℕ) → n < tries → (now_at old.setting (old.index + n)).time / frame_ticks ≡ from.time / frame_ticks
       frame-at n less =
-          let early = begun-at n less in
           let here = reached-here n (omega arith) in
-          let later = here.time in
-          in-frame board.state.now.time (now_at setting (index + n)).time limited (omega arith) early
+          let later = here.time in in-frame from.time (now_at old.setting (old.index + n)).time limit (omega arith) (begun-at n less)
         where
-          in-frame : (time now limited : ℕ) → time ≤ now → now < min limited (frame_ticks * suc (time / frame_ticks))
+          in-frame : (time now limit : ℕ) → time ≤ now → now < min limit (frame_ticks * suc (time / frame_ticks))
               → now / frame_ticks ≡ time / frame_ticks
-          in-frame time now limited after before = omega arith
+          in-frame time now limit after before = omega arith
 
-      pub few-steps : (fits : ℕ) → limited ≡ board.state.now.time + 4 * fits → tries ≤ fits
+      few-steps : (fits : ℕ) → limit ≡ from.time + 4 * fits → tries ≤ fits
       few-steps fits limit_is = choose tries refl
         where
           choose : (n : ℕ) → tries ≡ n → n ≤ fits
@@ -227,288 +208,229 @@ module _ (board : BoardValue) (switches : ℕ) (script : List Stretch) (history 
               let later = here.time in
               omega arith
 
-      pub nothing-met : (heeded : List ℕ) (stops : Option (List ℕ)) → AreStops stops heeded
-          → PassesBy (next_in (course_on board)) stops board.state.now new.state.now.steps → (last : ℕ) → tries ≡ suc last
-          → MeetNothing setting heeded index (index + last)
-      nothing-met heeded stops are passes last is = record {
-        after = omega arith;
-        goes = λ i after before. goes-all i (omega arith);
-        breaks = λ i after before.
-            let n : ℕ = i - index in
-            let same : i ≡ index + n = omega arith in
-            let all = played.all_steps in
-            let here = reached-here n (omega arith) in
-            let there = ap (λ (m : Moment BoardView). m.regs.pc) (ap (now_at setting) same ∙ here.now_is) in
-            ap (λ pc. list_any (λ address. address == pc) heeded) there
-            ∙ sym (are (stepped (next_in (course_on board)) board.state.now n).regs.pc) ∙ passes n (omega arith) (omega arith);
-        frame = λ i after before.
-            let n : ℕ = i - index in
-            let same : i ≡ index + n = omega arith in
-            let first = ap (λ (m : Moment BoardView). m.time / frame_ticks) stands.now_is in
-            ap (λ i. (now_at setting i).time / frame_ticks) same ∙ frame-at n (omega arith) ∙ first;
-      }
-
-      -- ---- what stands then
-
-      pub stands-after : IsLeft board switches script history furthest ring ring_left
-          → index + tries ≤ checkpoint_steps * (index / checkpoint_steps + 1)
-          → IsStanding setting new.state.now told (max furthest new.state.now.steps) ring_left
-      stands-after gone near =
-          let all = played.all_steps in
-          let few = gone.few in
-          let enough = gone.enough in
-          let past_index = gone.past in
+      nothing-met : (heeded : List ℕ) → AreStops stops heeded → MeetNothing old.setting heeded old.index new.state.now.steps
+      nothing-met heeded are =
+          let all = stands.steps in
+          let first = opened.steps in
           record {
-            now_is = played.there ∙ ap (now_at setting) (sym played.all_steps);
-            within = omega arith;
-            history_is = told-there;
-            goes = λ earlier less. seen earlier less (nat_lt earlier furthest) refl;
-            few = omega arith;
-            enough = omega arith;
-            all = gone.all;
-            checkpoints = gone.checkpoints;
+            goes = λ i after before. goes-all i (omega arith);
+            breaks = λ i after before.
+                let n : ℕ = i - old.index in
+                let same : i ≡ old.index + n = omega arith in
+                let here = ap (λ (m : Moment BoardView). m.regs.pc)
+                (ap (now_at old.setting) same ∙ (reached-here n (omega arith)).now_is) in
+                ap (λ pc. list_any (λ address. address == pc) heeded) here
+                ∙ sym (are (stepped next from n).regs.pc) ∙ gone.passes n (omega arith) (omega arith);
+            frame = λ i after before.
+                let n : ℕ = i - old.index in
+                let same : i ≡ old.index + n = omega arith in
+                ap (λ i. (now_at old.setting i).time / frame_ticks) same ∙ frame-at n (omega arith);
           }
-        where
-          seen : (earlier : ℕ) → earlier < max furthest new.state.now.steps → (before : Bool) → nat_lt earlier furthest ≡ before
-              → goes_at setting earlier ≡ true
-          seen earlier less true e = stands.goes earlier (grind (arith, nat_tests))
-          seen earlier less false e =
-              let all = played.all_steps in
-              let beyond : earlier < index + tries = grind (arith, nat_tests) in
-              goes-all earlier beyond
 
-      -- what a session sees of it
-      pub value-there : (breakpoints : List ℕ) (slots : List (Option ℕ)) (replayed : ℕ)
-          → with_board switches script new (max furthest new.state.now.steps) breakpoints slots replayed
-          ≡ record (moved_to (with_board switches script board furthest breakpoints slots replayed) (index + tries)) { due = new.state.due }
-      value-there breakpoints slots replayed =
-          ap (λ (b : BoardValue). with_board switches script b (max furthest b.state.now.steps) breakpoints slots replayed) played.board_is
-          ∙ value-after board switches script history furthest ring new.state.now new.state.due (index + tries) played.all_steps
-          breakpoints slots replayed
+      -- what a session sees then
+      value-there : seen_on new ≡ record (moved_to old new.state.now.steps) { due = new.state.due }
+      value-there =
+          ap seen_on stands.board_is
+          ∙ ap (λ n. record (moved_to old new.state.now.steps) {
+            due = new.state.due;
+            made = steps_counted old.made (new.state.now.steps - n);
+          }) opened.steps
 
--- ---- what stands after them, and what was given
+      now-then : new.state.now ≡ now_at (seen_on new).setting new.state.now.steps
+      now-then =
+          stands.now_is ∙ ap (now_at old.setting) (sym stands.steps)
+          ∙ sym (ap (λ (b : BoardValue). now_at (seen_on b).setting new.state.now.steps) stands.board_is)
 
-module _ (board : BoardValue) (switches : ℕ) (script : List Stretch) (history : List PastStep) (furthest : ℕ) (ring : Ring) (limited : ℕ)
-    (stands : IsStanding (record { set = board.set; switches = switches; script = script }) board.state.now history furthest ring)
-    (nothing : board.state.due ≡ nothing_due) (unasked : board.state.asked ≡ 0) where
-  abbrev run_of : Setting
-  run_of = record { set = board.set; switches = switches; script = script }
+      -- ---- what stands after them
 
-  abbrev at : ℕ
-  at = board.state.now.steps
+      pub set-then : new.set ≡ old.setting.set
+      set-then = ap (λ (b : BoardValue). b.set) stands.board_is
 
-  abbrev on : BoardValue → CourseValue
-  on b = record { board = b; script = script; gone = 0 }
+      pub asked-then : new.state.asked ≡ 0
+      asked-then = ap (λ (b : BoardValue). b.state.asked) stands.board_is
 
-  pub record HasLeaptOn (new : BoardValue) (told : List PastStep) : Type 0 where
-    pub set : new.set ≡ board.set
-    pub asked : new.state.asked ≡ board.state.asked
-    pub standing :
-        IsStanding (record { set = new.set; switches = switches; script = script }) new.state.now told (max furthest new.state.now.steps)
-        (ring_left board switches script history furthest ring)
+      module _ (most fits : ℕ) (limit_is : limit ≡ from.time + 4 * fits)
+          (fits_is : fits ≡ min most (checkpoint_steps - old.index % checkpoint_steps)) where
+        pub stands-then : (ring : Ring) → IsLeft old.setting old.index old.furthest ring
+            → IsStanding (seen_on new).setting new.state.now told (seen_on new).furthest ring
+        stands-then ring left =
+            let all = stands.steps in
+            let few = left.few in
+            let enough = left.enough in
+            let past_index = left.past in
+            let less = few-steps fits limit_is in
+            subst (λ set. IsStanding (record old.setting { set = set }) new.state.now told (max old.furthest new.state.now.steps) ring)
+            (sym (ap (λ (b : BoardValue). b.set) stands.board_is)) (record {
+              now_is = stands.now_is ∙ ap (now_at old.setting) (sym stands.steps);
+              within = omega arith;
+              history_is = told-there;
+              goes = λ earlier before. seen earlier before (nat_lt earlier old.furthest) refl;
+              few = omega arith;
+              enough = omega arith;
+              all = left.all;
+              checkpoints = left.checkpoints;
+            })
+          where
+            seen : (earlier : ℕ) → earlier < max old.furthest new.state.now.steps → (before : Bool) → nat_lt earlier old.furthest ≡ before
+                → goes_at old.setting earlier ≡ true
+            seen earlier less true e = goes earlier (grind (arith, nat_tests))
+            seen earlier less false e =
+                let all = stands.steps in goes-all earlier (grind (arith, nat_tests))
 
-  module _ {S E : Type 0} (to : Giving S) (sink later : S) (result : Result (Option Stop) E) (new : BoardValue) (told : List PastStep)
-      (most fits : ℕ) (limit_is : limited ≡ board.state.now.time + 4 * fits)
-      (fits_is : fits ≡ min most (checkpoint_steps - at % checkpoint_steps))
-      (made : PlaysTold to (on board) sink result (on new) later)
-      (notes : IsNoted (next_in (on board)) (min limited (frame_end (on board))) board.state.now new.state.now (Some history)
-      (Some told)) where
-    found : (tries : ℕ) × IsPlayed board switches script history furthest ring new tries
-    found = where-played board switches script history furthest ring stands unasked to new sink later result made
+        leap-of : (heeded : List ℕ) → AreStops stops heeded → IsLeap old heeded most new.state.now.steps
+        leap-of heeded are =
+            let all = stands.steps in
+            let less = few-steps fits limit_is in
+            record { after = omega arith; few = omega arith; unmet = nothing-met heeded are }
 
-    pub leapt-on : HasLeaptOn new told
-    leapt-on =
-        let played = found.1 in
-        let few = few-steps board switches script history furthest ring stands unasked limited new told found.0 played notes fits
-        limit_is in
-        let near : at + found.0 ≤ checkpoint_steps * (at / checkpoint_steps + 1) = omega arith in
-        let set = ap (λ (b : BoardValue). b.set) played.board_is in
-        let there = stands-after board switches script history furthest ring stands unasked limited new told found.0 played notes
-        (left board switches script history furthest ring stands nothing unasked) near in
-        record {
-          set = set;
-          asked = ap (λ (b : BoardValue). b.state.asked) played.board_is;
-          standing =
-              subst (λ set. IsStanding (record { set = set; switches = switches; script = script }) new.state.now told
-              (max furthest new.state.now.steps) (ring_left board switches script history furthest ring)) (sym set) there;
-        }
+        ends-so : (found : Option Stop) → HasEndedBy (course_of old) found (course_on old new)
+            → LeapEnds old (if nat_lt old.index new.state.now.steps then None else found) new.state.now.steps
+        ends-so found ended = choose (nat_lt old.index new.state.now.steps) refl found ended
+          where
+            choose : (b : Bool) → nat_lt old.index new.state.now.steps ≡ b → (found : Option Stop)
+                → HasEndedBy (course_of old) found (course_on old new)
+                → LeapEnds old (if b then None else found) new.state.now.steps
+            choose true e found ended =
+                let all = stands.steps in
+                let more : old.index < new.state.now.steps = grind (arith, nat_tests) in
+                let last = reached-here tries (omega arith) in
+                let time = last.time in
+                let here = ap (λ n. (now_at old.setting n).time) stands.steps in
+                (more, omega arith)
+            choose false e None ended =
+                let all = stands.steps in
+                let same : old.index + tries ≡ old.index = grind (arith, nat_tests) in
+                let time = ap (λ (m : Moment BoardView). m.time) (stands.now_is ∙ ap (now_at old.setting) same) in
+                absurd (omega arith)
+            choose false e (Some stop) ended =
+                let all = stands.steps in
+                let same : old.index + tries ≡ old.index = grind (arith, nat_tests) in
+                let now = stands.now_is ∙ ap (now_at old.setting) same in (
+                  omega arith,
+                  ap stop_in (sym (steps-same old opened from) ∙ ap next (sym now) ∙ ended.1),
+                )
 
-  module _ {S : Type 0} (to : Giving S) (sink later : S) (new : BoardValue) (told : List PastStep)
-      (most fits : ℕ) (limit_is : limited ≡ board.state.now.time + 4 * fits)
-      (fits_is : fits ≡ min most (checkpoint_steps - at % checkpoint_steps))
-      (notes : IsNoted (next_in (on board)) (min limited (frame_end (on board))) board.state.now new.state.now (Some history)
-      (Some told)) (heeded : List ℕ) (stops : Option (List ℕ)) (are : AreStops stops heeded)
-      (passes : PassesBy (next_in (on board)) stops board.state.now new.state.now.steps)
-      (breakpoints : List ℕ) (slots : List (Option ℕ)) (replayed : ℕ) where
-    abbrev before : SessionValue
-    before = with_board switches script board furthest breakpoints slots replayed
+  -- ---- by the answer
 
-    abbrev after : SessionValue
-    after = with_board switches script new (max furthest new.state.now.steps) breakpoints slots replayed
-
-    leap-of : (tries : ℕ) → IsPlayed board switches script history furthest ring new tries → IsLeap before heeded most tries
-    leap-of tries played =
-        let few = few-steps board switches script history furthest ring stands unasked limited new told tries played notes fits
-        limit_is in
-        record {
-          few = omega arith;
-          unmet = λ last is.
-              nothing-met board switches script history furthest ring stands unasked limited new told tries played notes heeded stops are
-              passes last is;
-        }
-
-    ending-of : (tries : ℕ) (stop : Option Stop) → IsPlayed board switches script history furthest ring new tries
-        → HasEndedBy (on board) stop (on new) → LeapEnds before tries stop
-    ending-of zero None played ended =
-        let here : at + 0 ≡ at = omega arith in
-        let time = ap (λ (m : Moment BoardView). m.time) (played.there ∙ ap (now_at run_of) here ∙ sym stands.now_is) in
-        absurd (omega arith)
-    ending-of (suc last) None played ended = omega arith
-    ending-of tries (Some stop) played ended =
-        ap stop_in
-        (ap (next_from run_of) (sym played.there) ∙ sym (next-same board switches script history furthest ring new.state.now) ∙ ended)
-
-    refused-after : (steps : ℕ) (held : IsCourseHeldUp to (on board) sink (on new) later) → held.steps ≡ steps
-        → IsPlayed board switches script history furthest ring new steps → due_outputs new ≡ session_due_outputs after
-        → IsLeapRefused to before heeded most sink after later
-    refused-after zero held is played same = cut-something held.cut (ap (λ n. (way_walked (on board) n).outputs) is)
-    refused-after (suc last) held is played same = record {
-      last = last;
-      leap = leap-of (suc last) played;
-      session = value-there board switches script history furthest ring stands unasked limited new told (suc last) played notes
-          breakpoints slots replayed;
-      cut =
-          cut-along
-          (walked-given board switches script history furthest ring stands unasked (suc last)
-          ∙ ap (λ n. (way_walked (on board) n).outputs) (sym is)) same held.cut;
-      of_last =
-          subst (λ xs. IsPrefix xs held.cut.taken)
-          (sym (walked-given board switches script history furthest ring stands unasked last)) (held.of_last last is);
-    }
-
-    pub leapt-so : {E : Type 0} (result : Result (Option Stop) E) → PlaysTold to (on board) sink result (on new) later
-        → HasLeaptOn new told → Leaps to before heeded most sink result after later
-    unfolding where-played
-    leapt-so (Ok stop) made stood =
-        let tries = made.played.steps in
-        let answer : Result (Option Stop) (Unit {0}) = Ok stop in
-        let played = (where-played board switches script history furthest ring stands unasked to new sink later answer made).1 in
-        let none : new.state.due ≡ nothing_due = ap (λ (c : CourseValue). c.board.state.due) made.played.course in
+  module _ {S : Type 0} (to : Giving S) (sink later : S) (limit : ℕ) (stops : Option (List ℕ)) (new : BoardValue) (told : List PastStep)
+      (most fits : ℕ) (limit_is : limit ≡ from.time + 4 * fits)
+      (fits_is : fits ≡ min most (checkpoint_steps - old.index % checkpoint_steps)) (heeded : List ℕ) (are : AreStops stops heeded) where
+    leapt-so : {E : Type 0} (found : Option Stop) → Gone {E = E} old to sink later limit stops new told (Ok found)
+        → HasLeapt to.took old heeded most old.index new.state.now.steps sink (if nat_lt old.index new.state.now.steps then None else found)
+        (seen_on new) later
+    leapt-so {E} found gone =
+        let answer : Result (Option Stop) E = Ok found in
+        let first = opened.steps in
+        let steps = gone.made.played.all_steps in
+        let all : new.state.now.steps ≡ old.index + gone.made.played.steps = omega arith in
         record {
           leapt = record {
-            count = tries;
-            leap = leap-of tries played;
-            ending = ending-of tries stop played made.ending;
-            session = value-there board switches script history furthest ring stands unasked limited new told tries played notes
-                breakpoints slots replayed
-                ∙ ap (λ due. record (moved_to before (at + tries)) { due = due }) none;
+            leap = leap-of to sink later limit stops new told answer gone most fits limit_is fits_is heeded are;
+            ending = ends-so to sink later limit stops new told answer gone most fits limit_is fits_is found gone.made.ending;
+            session = value-there to sink later limit stops new told answer gone
+                ∙ ap (λ due. record (moved_to old new.state.now.steps) { due = due })
+                (ap (λ (c : CourseValue). c.board.state.due) gone.made.played.course);
           };
           sink_is =
               subst (λ xs. TookAll to.took sink xs later)
-              (sym (walked-given board switches script history furthest ring stands unasked tries)) made.played.sink_is;
+              (sym (ap (outputs_between old.setting old.index) all ∙ given-walked old opened gone.made.played.steps))
+              gone.made.played.sink_is;
         }
-    leapt-so (Err refusal) made stood =
-        let played = (where-played board switches script history furthest ring stands unasked to new sink later (Err refusal) made).1 in
-        refused-after made.steps made refl played
-        (sym (ap (λ (now : Moment BoardView). due_outputs_in new.set now.board new.state.due) (sym stood.standing.now_is)))
 
--- ---- a leap is a stride
+    leap-refused : {E : Type 0} (refusal : E) → Gone old to sink later limit stops new told (Err refusal)
+        → IsLeapRefused to old heeded most sink (seen_on new) later
+    leap-refused refusal gone = choose gone.made.steps refl
+      where
+        choose : (n : ℕ) → gone.made.steps ≡ n → IsLeapRefused to old heeded most sink (seen_on new) later
+        choose zero is = cut-something gone.made.cut (ap (λ n. (way_walked (course_of old) n).outputs) is)
+        choose (suc last) is =
+            let first = opened.steps in
+            let steps = gone.made.all_steps in
+            let all : new.state.now.steps ≡ old.index + gone.made.steps = omega arith in
+            record {
+              last = old.index + last;
+              index = omega arith;
+              after = omega arith;
+              leap = leap-of to sink later limit stops new told (Err refusal) gone most fits limit_is fits_is heeded are;
+              session = value-there to sink later limit stops new told (Err refusal) gone;
+              cut =
+                  cut-along (ap (outputs_between old.setting old.index) all ∙ given-walked old opened gone.made.steps)
+                  (ap (λ (now : Moment BoardView). due_outputs_in new.set now.board new.state.due)
+                  (now-then to sink later limit stops new told (Err refusal) gone)) gone.made.cut;
+              of_last =
+                  subst (λ xs. IsPrefix xs gone.made.cut.taken) (sym (given-walked old opened last)) (gone.made.of_last last is);
+            }
 
-module _ (old new : SessionValue) (facts : IsSession old) (nothing : old.due ≡ nothing_due) where
-  -- where no step was done, nothing has changed
-  unmoved : new ≡ moved_to old (old.index + 0) → new ≡ old
-  unmoved session =
-      let here : old.index + 0 ≡ old.index = omega arith in
-      let within = facts.within in
-      let counted = facts.counted in
-      let far : max old.furthest old.index ≡ old.furthest = omega arith in
-      let made : steps_counted old.made (old.index - old.index) ≡ old.made = none-made old.made old.index counted in
-      session ∙ ap (moved_to old) here
-      ∙ ap (λ n. record old { furthest = n; due = nothing_due; made = steps_counted old.made (old.index - old.index) }) far
-      ∙ ap (λ n. record old { due = nothing_due; made = n }) made
-      ∙ ap (λ due. record old { due = due }) (sym nothing)
+    pub leaps-so : {E : Type 0} (result : Result (Option Stop) E) → Gone old to sink later limit stops new told result
+        → Leaps to old heeded most sink (stop_unless (nat_lt old.index new.state.now.steps) result) (seen_on new) later
+    leaps-so (Ok found) gone = leapt-so found gone
+    leaps-so (Err refusal) gone = leap-refused refusal gone
+
+pub taken-up : {S E : Type 0} (to : Giving S) (inside : Inside) (right : IsInsideRight inside) (board new : BoardValue)
+    (limit : ℕ) (stops : Option (List ℕ)) (sink later : S) (result : Result (Option Stop) E) (told : List PastStep)
+    → board ≡ inside.board.value
+    → GoesTold to (course_on (session_view inside) board) limit stops (Some inside.history) sink result
+    (course_on (session_view inside) new) (Some told) later
+    → Gone (session_view inside) to sink later limit stops new told result
+taken-up to inside right board new limit stops sink later result told is gone =
+    subst (λ history. GoesTold to (course_of old) limit stops (Some history) sink result (course_on old new) (Some told) later)
+    right.standing.history_is
+    (subst (λ course. GoesTold to course limit stops (Some inside.history) sink result (course_on old new) (Some told) later) begins gone)
+  where
+    old : SessionValue
+    old = session_view inside
+
+    begins : course_on old board ≡ course_of old
+    begins = ap (course_on old) is ∙ (λ i. course_on old (record {
+      set = inside.board.value.set;
+      state = record { now = right.standing.now_is i; asked = right.unasked i; due = inside.board.value.state.due };
+      made = inside.board.value.made;
+    }))
+
+-- ---- on behalf of a motion
+
+module _ {S : Type 0} (to : Giving S) (old new : SessionValue) (motion : Motion) (from : ℕ) (heeded : Bool) (most : ℕ)
+    (heeded_is : heeded ≡ heeds motion) (most_is : most ≡ longest_stride motion (old.index - from)) (sink later : S) where
+  -- from the furthest index on what they give is fresh
+  pub strode-fresh : {E : Type 0} (result : Result (Option Stop) E) → old.index ≡ old.furthest
+      → Leaps to old (heeded_if heeded old.breakpoints) most sink result new later → Strides to old motion from sink result new later
+  strode-fresh result fresh leaps =
+      choose result
+      (subst (λ b. Leaps to old (heeded_if b old.breakpoints) (longest_stride motion (old.index - from)) sink result new later)
+      heeded_is (subst (λ n. Leaps to old (heeded_if heeded old.breakpoints) n sink result new later) most_is leaps))
     where
-      none-made : (made n : ℕ) → made < 2 ^ 64 → steps_counted made (n - n) ≡ made
-      none-made made n fits = omega arith
+      choose : {E : Type 0} (result : Result (Option Stop) E)
+          → Leaps to old (heeded_by motion old.breakpoints) (longest_stride motion (old.index - from)) sink result new later
+          → Strides to old motion from sink result new later
+      choose (Ok stop) one =
+          let after = one.leapt.leap.after in
+          let furthest = ap (λ (s : SessionValue). s.furthest) one.leapt.session in
+          let far : new.index ≡ new.furthest = omega arith in
+          record {
+            leapt = one.leapt;
+            sink_is = subst (λ xs. TookAll to.took sink xs later) (λ i. outputs_between old.setting (fresh i) (far i)) one.sink_is;
+          }
+      choose (Err refusal) held = record { fresh = fresh; held = held }
 
-  module _ {S : Type 0} (E : Type 0) (to : Giving S) (heeded : List ℕ) (most asked : ℕ) (sink later : S) (found : Option Stop) (few : asked ≤ most)
-      (leapt : IsLeapt old heeded asked found new)
-      (taken : TookAll to.took sink (outputs_between old.setting old.furthest new.furthest) later) where
-    met : (stop : Option Stop) → LeapEnds old leapt.count stop → leapt.count ≡ 0 → StepsOn {E = E} to old heeded most sink (Ok stop) new later
-    met None ends none = absurd (omega arith)
-    met (Some stop) ends none =
-        let here : old.index + leapt.count ≡ old.index = omega arith in
-        let still = unmoved (leapt.session ∙ ap (λ n. moved_to old (old.index + n)) none) in
-        let far = ap (λ (s : SessionValue). s.furthest) still in
-        record {
-          stop_is = ap (stop_at old.setting) (sym here) ∙ ends;
-          session = still;
-          sink_is =
-              subst (λ xs. TookAll to.took sink xs later)
-              (ap (outputs_between old.setting old.furthest) far ∙ between-self old.setting old.furthest) taken;
-        }
-
-    strode : (n : ℕ) → leapt.count ≡ n → StepsOn {E = E} to old heeded most sink (Ok (if nat_lt old.index new.index then None else found)) new
-        later
-    strode zero is =
-        let index = ap (λ (s : SessionValue). s.index) leapt.session in
-        let there : nat_lt old.index new.index ≡ false = grind (arith, nat_tests) in
-        subst (λ (b : Bool). StepsOn {E = E} to old heeded most sink (Ok (if b then None else found)) new later) (sym there)
-        (met found leapt.ending is)
-    strode (suc last) is =
-        let index = ap (λ (s : SessionValue). s.index) leapt.session in
-        let there : nat_lt old.index new.index ≡ true = grind (arith, nat_tests) in
-        let bound = leapt.leap.few in
-        let same : old.index + leapt.count ≡ old.index + last + 1 = omega arith in
-        subst (λ (b : Bool). StepsOn {E = E} to old heeded most sink (Ok (if b then None else found)) new later) (sym there)
-        (record {
-          last = old.index + last;
-          unmet = leapt.leap.unmet last is;
-          few = omega arith;
-          session = leapt.session ∙ ap (moved_to old) same;
-          sink_is = taken;
-        })
-
-    pub strode-on : StepsOn {E = E} to old heeded most sink (Ok (if nat_lt old.index new.index then None else found)) new later
-    strode-on = strode leapt.count refl
-
-  -- from the furthest index on, and behind it
-  pub leap-fresh : {S : Type 0} (to : Giving S) (sink later : S) (count : ℕ) → old.index ≡ old.furthest
-      → new ≡ moved_to old (old.index + count)
-      → TookAll to.took sink (outputs_between old.setting old.index (old.index + count)) later
-      → TookAll to.took sink (outputs_between old.setting old.furthest new.furthest) later
-  leap-fresh to sink later count fresh session taken =
-      let furthest = ap (λ (s : SessionValue). s.furthest) session in
-      let far : new.furthest ≡ old.index + count = omega arith in
-      subst (λ xs. TookAll to.took sink xs later)
-      (ap (λ n. outputs_between old.setting n (old.index + count)) fresh ∙ ap (outputs_between old.setting old.furthest) (sym far)) taken
-
-  pub leap-stale : {S : Type 0} (to : Giving S) (sink : S) (count : ℕ) → old.index + count ≤ old.furthest
-      → new ≡ moved_to old (old.index + count)
-      → TookAll to.took sink (outputs_between old.setting old.furthest new.furthest) sink
-  leap-stale to sink count behind session =
-      let furthest = ap (λ (s : SessionValue). s.furthest) session in
+  -- and before it the sink was given it
+  pub strode-stale : (asked : ℕ) (stop : Option Stop) → asked ≡ min most (old.furthest - old.index)
+      → old.index ≤ old.furthest → IsLeapt old (heeded_if heeded old.breakpoints) asked stop new
+      → HasStrode to.took old motion from sink stop new sink
+  strode-stale asked stop asked_is within leapt =
+      let few = leapt.leap.few in
+      let furthest = ap (λ (s : SessionValue). s.furthest) leapt.session in
       let far : new.furthest ≡ old.furthest = omega arith in
-      subst (λ xs. TookAll to.took sink xs sink)
-      (sym (ap (outputs_between old.setting old.furthest) far ∙ between-self old.setting old.furthest)) refl
-
-  pub leap-refused : {S : Type 0} (to : Giving S) (heeded : List ℕ) (most : ℕ) (sink later : S) → old.index ≡ old.furthest
-      → IsLeapRefused to old heeded most sink new later → IsStrideRefused to old heeded most sink new later
-  leap-refused to heeded most sink later fresh held =
-      let furthest = ap (λ (s : SessionValue). s.furthest) held.session in
-      let far : new.furthest ≡ old.index + suc held.last = omega arith in
-      let bound = held.leap.few in
-      let same : old.index + suc held.last ≡ old.index + held.last + 1 = omega arith in
       record {
-        last = old.index + held.last;
-        unmet = held.leap.unmet held.last refl;
-        few = omega arith;
-        fresh = fresh;
-        session = held.session ∙ ap (λ n. record (moved_to old n) { due = new.due }) same;
-        cut =
-            cut-along
-            (ap (outputs_between old.setting old.furthest) far
-            ∙ ap (λ n. outputs_between old.setting n (old.index + suc held.last)) (sym fresh)) refl held.cut;
-        of_last =
-            subst (λ xs. IsPrefix xs held.cut.taken) (ap (λ n. outputs_between old.setting n (old.index + held.last)) fresh) held.of_last;
+        leapt = record {
+          leap = record {
+            after = leapt.leap.after;
+            few = omega arith;
+            unmet = subst (λ b. MeetNothing old.setting (heeded_if b old.breakpoints) old.index new.index) heeded_is leapt.leap.unmet;
+          };
+          ending = leapt.ending;
+          session = leapt.session;
+        };
+        sink_is =
+            subst (λ xs. TookAll to.took sink xs sink)
+            (sym (ap (outputs_between old.setting old.furthest) far ∙ between-self old.setting old.furthest)) refl;
       }

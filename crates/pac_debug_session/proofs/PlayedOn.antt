@@ -50,7 +50,7 @@ module _ (s : SessionValue) (opened : IsOpen s.setting s.index) where
   limits : end_of course ≡ limit s.setting
   limits = omega arith
 
-  steps-same : (now : Moment BoardView) → next_in course now ≡ next now
+  pub steps-same : (now : Moment BoardView) → next_in course now ≡ next now
   steps-same now =
       let masks : (frame : ℕ) → held_in course frame ≡ held s.setting.script frame = λ frame. ap (held s.setting.script) (omega arith) in
       play-same (by_view s.setting.set) (held_in course) (held s.setting.script) masks now
@@ -110,14 +110,14 @@ module _ {S : Type 0} (to : Giving S) (old : SessionValue) (facts : IsSession ol
       → (left : SessionValue) × IsFinished to.took old sink outcome left later
   played from after stop later outcome begins is_over is =
       let over = subst (λ course. IsOver to.took course between_sinks stop after later) begins is_over in
-      let end = run-ends old.setting old.index (λ earlier less. let within = facts.within in facts.goes earlier (omega arith)) in
+      let end = run-ends old.setting old.index in
       let whole = run-on at_furthest opened-there in
       let now : after.board.state.now ≡ (whole_run old.setting).now
       = ap (λ (course : CourseValue). course.board.state.now) over.course ∙ ap (λ (w : Walk BoardView). w.now) whole in
       let met = over.stop_is ∙ ap (λ (w : Walk BoardView). w.stop) whole in (
-        record (moved_to old end.0) { replayed = 0 },
+        record (moved_to old end.index) { replayed = 0 },
         record {
-          rest = end.1;
+          rest = end.least;
           outcome_is = is ∙ (λ i. outcome_at (now i) (met i));
           session = refl;
           sink_is =

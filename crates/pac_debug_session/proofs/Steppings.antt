@@ -1,27 +1,19 @@
 -- What a session keeps as it leaves an index, over plain values, and what it sees after steps.
-use Rattle.std.proofs.Common.{◌≡◌, ℕ, ◌+◌, ◌-◌, ◌*◌, ◌==◌, ◌<◌, ◌≤◌, Bool, true, false, max, if◌then◌else◌}
+use Rattle.std.proofs.Common.{◌≡◌, ℕ, ◌+◌, ◌-◌, ◌*◌, ◌==◌, ◌<◌, ◌≤◌, Bool, true, false, if◌then◌else◌}
 use Rattle.std.proofs.Common.{map, Option, None, Some, List, [], ◌∷◌, ◌++◌, length, drop, refl, ap, subst, ◌∙◌}
 use Rattle.std.proofs.Common.{arith}
 use Rattle.std.proofs.lemmas.Bool.Decides.{nat_tests}
 use Rattle.std.proofs.lemmas.List.{length-append, length-drop}
 use Rattle.pac_board_course.specs.Stretch.{Stretch}
-use Rattle.pac_board_course.specs.BoardView.{BoardView}
-use Rattle.pac_board_course.specs.Step.{Moment}
-use Rattle.pac_board_course.specs.Due.{Due}
-use Rattle.pac_board_course.specs.State.{BoardValue, nothing_due, steps_counted}
-use Rattle.pac_board_course.specs.Trace.{by_view}
-use Rattle.pac_board_course.specs.Stretches.{held}
-use Rattle.pac_board_course.proofs.Begun.{play-same}
-use Rattle.pac_board_course.specs.TurnsProofs.{board_at}
-use Rattle.pac_board_course.specs.Course.{CourseValue, held_in, next_in}
+use Rattle.pac_board_course.specs.State.{BoardValue, nothing_due}
 use Rattle.pac_board_course.specs.PastStep.{PastStep}
 use Rattle.pac_debug_session.specs.declared.kept.SessionSnapshot.{SessionSnapshot}
 use Rattle.pac_debug_session.specs.declared.kept.SlotContents.{SlotContents}
 use Rattle.pac_debug_session.specs.Inside.{IsStanding, AreSlotsRight}
 use Rattle.pac_debug_session.specs.Keeping.{Ring, mark_of, kept_of, ring_with_checkpoint, ring_after_index, IsKeptAt, AreCheckpoints}
-use Rattle.pac_debug_session.specs.Motions.{checkpoint_steps, checkpoint_count, moved_to}
+use Rattle.pac_debug_session.specs.Motions.{checkpoint_steps, checkpoint_count}
 use Rattle.pac_debug_session.specs.Past.{told_at}
-use Rattle.pac_debug_session.specs.Running.{Setting, now_at, next_from}
+use Rattle.pac_debug_session.specs.Running.{Setting, now_at}
 use Rattle.pac_debug_session.specs.Session.{SessionValue}
 use Rattle.pac_debug_session.specs.SessionLaws.{IsSeen, AreSeen}
 
@@ -84,84 +76,40 @@ pub right-later : (setting : Setting) (furthest later : ℕ) (slots : List SlotC
 right-later setting furthest later slots less right =
     record { count = right.count; kept = right.kept; seen = all-seen-later furthest later (map mark_of slots) less right.seen }
 
-module _ (board : BoardValue) (switches : ℕ) (script : List Stretch) (history : List PastStep) (furthest : ℕ) (ring : Ring) where
-  abbrev setting : Setting
-  setting = record { set = board.set; switches = switches; script = script }
+-- the ring, once its index is left
+pub record IsLeft (setting : Setting) (index furthest : ℕ) (after : Ring) : Type 0 where
+  pub few : checkpoint_steps * after.taken ≤ furthest + checkpoint_steps
+  pub enough : furthest ≤ checkpoint_steps * after.taken
+  pub past : index < checkpoint_steps * after.taken
+  pub all : length after.kept ≡ checkpoint_count
+  pub checkpoints : AreCheckpoints setting after.taken after.kept
 
-  abbrev index : ℕ
-  index = board.state.now.steps
-
-  -- the course that is played, on a board
-  abbrev course_on : BoardValue → CourseValue
-  course_on b = record { board = b; script = script; gone = 0 }
-
-  abbrev ring_after : Ring
-  ring_after = ring_after_index index ring (kept_of board history)
-
-  -- the ring, once its index is left
-  pub record IsLeft (after : Ring) : Type 0 where
-    pub few : checkpoint_steps * after.taken ≤ furthest + checkpoint_steps
-    pub enough : furthest ≤ checkpoint_steps * after.taken
-    pub past : index < checkpoint_steps * after.taken
-    pub all : length after.kept ≡ checkpoint_count
-    pub checkpoints : AreCheckpoints setting after.taken after.kept
-
-  left-if : (here : Bool) → (index == checkpoint_steps * ring.taken) ≡ here
-      → IsStanding setting board.state.now history furthest ring → board.state.due ≡ nothing_due → board.state.asked ≡ 0
-      → IsLeft (if here then ring_with_checkpoint ring (kept_of board history) else ring)
-  left-if true e stands nothing unasked =
-      let same : index ≡ checkpoint_steps * ring.taken = grind (arith, nat_tests) in
-      let within = stands.within in
-      let enough = stands.enough in
-      let all = stands.all in
-      record {
-        few = omega arith;
-        enough = omega arith;
-        past = omega arith;
-        all = omega (arith, length-append (drop 1 ring.kept) (kept_of board history ∷ []), length-drop 1 ring.kept);
-        checkpoints =
-            checkpoints-more setting ring.taken ring.kept (kept_of board history) all stands.checkpoints (record {
-              now = stands.now_is ∙ ap (now_at setting) same;
-              nothing = nothing;
-              unasked = unasked;
-              history = stands.history_is ∙ ap (told_at setting) same;
-            });
-      }
-  left-if false e stands nothing unasked =
-      let within = stands.within in
-      let enough = stands.enough in
-      let few = stands.few in
-      record {
-        few = few;
-        enough = enough;
-        past = grind (arith, nat_tests);
-        all = stands.all;
-        checkpoints = stands.checkpoints;
-      }
-
-  pub left : IsStanding setting board.state.now history furthest ring → board.state.due ≡ nothing_due → board.state.asked ≡ 0
-      → IsLeft ring_after
-  left stands nothing unasked = left-if (index == checkpoint_steps * ring.taken) refl stands nothing unasked
-
-  -- what the course's steps come to is what they come to in the run
-  pub next-same : (now : Moment BoardView) → next_in (course_on board) now ≡ next_from setting now
-  next-same now =
-      let masks : (frame : ℕ) → held_in (course_on board) frame ≡ held script frame = λ frame. ap (held script) (omega arith) in
-      play-same (by_view board.set) (held_in (course_on board)) (held script) masks now
-
-  -- what a session sees of it
-  pub value-after : (to : Moment BoardView) (due : Due) (end : ℕ) → to.steps ≡ end → (breakpoints : List ℕ) (slots : List (Option ℕ))
-      → (replayed : ℕ)
-      → with_board switches script (board_at board to due) (max furthest to.steps) breakpoints slots replayed
-      ≡ record (moved_to (with_board switches script board furthest breakpoints slots replayed) end) { due = due }
-  value-after to due end count breakpoints slots replayed =
-      ap (λ n. record {
-        setting = setting;
-        index = n;
-        furthest = max furthest n;
-        breakpoints = breakpoints;
-        slots = slots;
-        due = due;
-        made = steps_counted board.made (n - board.state.now.steps);
-        replayed = replayed;
-      }) count
+pub left : (setting : Setting) (board : BoardValue) (history : List PastStep) (furthest : ℕ) (ring : Ring)
+    → IsStanding setting board.state.now history furthest ring → board.state.due ≡ nothing_due → board.state.asked ≡ 0
+    → IsLeft setting board.state.now.steps furthest (ring_after_index board.state.now.steps ring (kept_of board history))
+left setting board history furthest ring stands nothing unasked = choose (board.state.now.steps == checkpoint_steps * ring.taken) refl
+  where
+    choose : (here : Bool) → (board.state.now.steps == checkpoint_steps * ring.taken) ≡ here
+        → IsLeft setting board.state.now.steps furthest (if here then ring_with_checkpoint ring (kept_of board history) else ring)
+    choose true e =
+        let same : board.state.now.steps ≡ checkpoint_steps * ring.taken = grind (arith, nat_tests) in
+        let within = stands.within in
+        let enough = stands.enough in
+        let all = stands.all in
+        record {
+          few = omega arith;
+          enough = omega arith;
+          past = omega arith;
+          all = omega (arith, length-append (drop 1 ring.kept) (kept_of board history ∷ []), length-drop 1 ring.kept);
+          checkpoints =
+              checkpoints-more setting ring.taken ring.kept (kept_of board history) all stands.checkpoints (record {
+                now = stands.now_is ∙ ap (now_at setting) same;
+                nothing = nothing;
+                unasked = unasked;
+                history = stands.history_is ∙ ap (told_at setting) same;
+              });
+        }
+    choose false e =
+        let within = stands.within in
+        let enough = stands.enough in
+        record { few = stands.few; enough = enough; past = grind (arith, nat_tests); all = stands.all; checkpoints = stands.checkpoints }

@@ -1,15 +1,11 @@
 //! The steps that were done last.
 
-ghost use Rattle.std.specs.Prelude.{◌≡◌, ◌≤◌, ◌<◌, ◌*◌, [], IfOk, length, slice_get, Some, min};
-ghost use Rattle.pac_board_course.specs.Course.{next_in};
-ghost use Rattle.pac_board_course.specs.Frames.{frame_end};
+ghost use Rattle.std.specs.Prelude.{◌≡◌, ◌≤◌, ◌<◌, ◌*◌, [], IfOk, length, slice_get, Some};
+ghost use Rattle.pac_board_course.specs.Frames.{GoesTold};
 ghost use Rattle.pac_board_course.specs.SinksLaws.{by};
 ghost use Rattle.pac_board_course.specs.State as state;
 ghost use Rattle.pac_board_course.specs.Step.{frame_ticks};
 ghost use Rattle.pac_board_course.specs.Stretches.{most_frames, total_frames};
-ghost use Rattle.pac_board_course.specs.StopsProofs.{PassesBy};
-ghost use Rattle.pac_board_course.specs.Told.{PlaysTold};
-ghost use Rattle.pac_board_course.specs.Trails.{IsNoted};
 ghost use Rattle.pac_debug_session.specs.Past.{told_step_count};
 
 use pac_board_course::{Board, PastStep, Refused, Script, Sink, Stop, Stops, Trail, go};
@@ -60,14 +56,10 @@ impl History {
         requires early { board.old.state.now.time < frame_ticks * total_frames script.now }
         requires begun { board.old.state.now.time < limit }
         requires nothing { board.old.state.due ≡ state.nothing_due }
-        ensures made { PlaysTold (by S.took S.refused)
-            (record { board = board.old; script = script.now; gone = 0 }) sink.old result
-            (record { board = board.new; script = script.now; gone = 0 }) sink.new }
-        ensures told { IsNoted (next_in (record { board = board.old; script = script.now; gone = 0 }))
-            (min limit (frame_end (record { board = board.old; script = script.now; gone = 0 })))
-            board.old.state.now board.new.state.now (Some self.old) (Some self.new) }
-        ensures passes { PassesBy (next_in (record { board = board.old; script = script.now; gone = 0 })) stops.now
-            board.old.state.now board.new.state.now.steps }
+        ensures { GoesTold (by S.took S.refused)
+            (record { board = board.old; script = script.now; gone = 0 }) limit stops.now
+            (Some self.old) sink.old result
+            (record { board = board.new; script = script.now; gone = 0 }) (Some self.new) sink.new }
     {
         go(board, script, 0, limit, stops, &mut self.told, sink)
     }

@@ -1,34 +1,56 @@
-//! The way forward: steps of any kind in one go.
+//! Steps in one go, forwards; and the way to a checkpoint.
 
-ghost use Rattle.std.specs.Prelude.{◌≡◌, ◌+◌, ◌≤◌, None, false, if◌then◌else◌, nat_lt};
+ghost use Rattle.std.specs.Prelude.{◌≡◌, ◌+◌, ◌*◌, ◌<◌, ◌≤◌, ◌^◌, false, nat_lt};
 ghost use Rattle.pac_board_course.specs.SinksLaws.{by};
 ghost use Rattle.pac_board_course.specs.State as state;
-ghost use Rattle.pac_debug_session.specs.Running.{is_late};
 ghost use Rattle.pac_debug_session.specs.Breakpoints.{heeded_if};
-ghost use Rattle.pac_debug_session.specs.Strides.{IsLeapt, Leaps, StepsOn};
+ghost use Rattle.pac_debug_session.specs.Keeping.{kept_of, ring_after_index};
+ghost use Rattle.pac_debug_session.specs.Motions.{oldest_index, checkpoint_steps};
+ghost use Rattle.pac_debug_session.specs.Running.{is_late};
+ghost use Rattle.pac_debug_session.specs.Strides.{IsLeapt, Leaps, stop_unless};
 
+use crate::checkpoints::Checkpoints;
+use crate::history::History;
 use crate::session::Session;
 use crate::silent::Silent;
-use crate::travel::{CHECKPOINT_STEPS, take_at};
-use pac_board_course::{Refused, Sink, Stop};
+use pac_board_course::{Board, Refused, Sink, Stop};
+
+/// The steps from one checkpoint to the next (this profile).
+pub const CHECKPOINT_STEPS: u64 = 4096;
 
 /// The T-states of the shortest step.
 const LEAST_TICKS: u64 = 4;
 
-/// A stop that was met where no step was done before it; else there is a step to look at first.
-fn unless_moved(found: Option<Stop>, from: u64, to: u64) -> Option<Stop>
-    ensures { result ≡ (if nat_lt from to then None else found) }
+/// Takes a checkpoint where this index is that of the next one.
+fn take_at(checkpoints: &mut Checkpoints, index: u64, board: &Board, history: &History)
+    requires { checkpoints.old.taken + 1 < 2 ^ 64 }
+    ensures { checkpoints.new ≡ ring_after_index index checkpoints.old
+        (kept_of board.now history.now) }
 {
-    if from < to {
-        return None;
+    if index % CHECKPOINT_STEPS == 0 && index / CHECKPOINT_STEPS == checkpoints.taken() {
+        checkpoints.take(board, history);
     }
-    found
+}
+
+/// A stop that was met where no step was done before it; else there is a step to look at first.
+fn unless_moved(
+    played: Result<Option<Stop>, Refused>,
+    from: u64,
+    to: u64,
+) -> Result<Option<Stop>, Refused>
+    ensures { result ≡ stop_unless (nat_lt from to) played }
+{
+    match played {
+        Ok(_) if from < to => Ok(None),
+        played => played,
+    }
 }
 
 impl Session {
-    /// Does steps in one go, so many at most, none past the next index of a checkpoint, none past the next blank, and none but the first at
-    /// a breakpoint that is heeded, up to a stop, and offers what they give.
-    fn leap<S: Sink>(
+    /// Does steps in one go, so many at most, none past the next index of a checkpoint, none past
+    /// the next blank, and none but the first at a breakpoint that is heeded, and offers what they
+    /// give. Answers the stop that the first of them met, if it did.
+    pub(crate) fn leap<S: Sink>(
         &mut self,
         most: u64,
         heeds: bool,
@@ -37,7 +59,8 @@ impl Session {
         requires nothing { self.old.due ≡ state.nothing_due }
         requires early { is_late self.old.setting self.old.index ≡ false }
         requires some { 1 ≤ most }
-        ensures { Leaps (by S.took S.refused) self.old (heeded_if heeds self.old.breakpoints) most sink.old result self.new sink.new }
+        ensures { Leaps (by S.took S.refused) self.old (heeded_if heeds self.old.breakpoints) most
+            sink.old result self.new sink.new }
     {
         let index = self.board.steps();
         take_at(&mut self.checkpoints, index, &self.board, &self.history);
@@ -47,12 +70,12 @@ impl Session {
         let played = self
             .history
             .go(&mut self.board, &self.script, limit, &stops, sink);
-        self.furthest = self.furthest.max(self.board.steps());
-        played
+        let now = self.board.steps();
+        self.furthest = self.furthest.max(now);
+        unless_moved(played, index, now)
     }
 
-    /// Does steps in one go whose outputs were taken before, so many at most; what they give goes nowhere. Answers the stop that the run
-    /// met, if any.
+    /// Does steps in one go whose outputs were taken before; what they give goes nowhere.
     pub(crate) fn leap_again(&mut self, most: u64, heeds: bool) -> Option<Stop>
         requires nothing { self.old.due ≡ state.nothing_due }
         requires early { is_late self.old.setting self.old.index ≡ false }
@@ -65,45 +88,14 @@ impl Session {
         found
     }
 
-    /// Does steps from the furthest index on, so many at most, offers what they give, and answers the stop that the run met, if any.
-    fn leap_on<S: Sink>(
-        &mut self,
-        most: u64,
-        heeds: bool,
-        sink: &mut S,
-    ) -> Result<Option<Stop>, Refused>
-        requires nothing { self.old.due ≡ state.nothing_due }
-        requires early { is_late self.old.setting self.old.index ≡ false }
-        requires some { 1 ≤ most }
-        requires fresh { self.old.index ≡ self.old.furthest }
-        ensures { StepsOn (by S.took S.refused) self.old (heeded_if heeds self.old.breakpoints) most sink.old result self.new sink.new }
+    /// Goes back to the checkpoint of a number, the first being 0.
+    pub(crate) fn rewind(&mut self, number: u64)
+        requires left { checkpoint_steps * number < self.old.furthest }
+        requires kept { oldest_index self.old.furthest ≤ checkpoint_steps * number }
+        ensures { self.new
+            ≡ record self.old { index = checkpoint_steps * number; due = state.nothing_due } }
     {
-        self.facts();
-        let index = self.index();
-        let found = self.leap(most, heeds, sink)?;
-        Ok(unless_moved(found, index, self.index()))
-    }
-
-    /// Does steps in one go, so many at most; offers what they give unless it was offered before, and answers the stop that the run met,
-    /// if any.
-    pub(crate) fn stride<S: Sink>(
-        &mut self,
-        most: u64,
-        heeds: bool,
-        sink: &mut S,
-    ) -> Result<Option<Stop>, Refused>
-        requires nothing { self.old.due ≡ state.nothing_due }
-        requires early { is_late self.old.setting self.old.index ≡ false }
-        requires some { 1 ≤ most }
-        ensures { StepsOn (by S.took S.refused) self.old (heeded_if heeds self.old.breakpoints) most sink.old result self.new sink.new }
-    {
-        self.facts();
-        let index = self.index();
-        let ahead = self.furthest() - index;
-        if ahead == 0 {
-            return self.leap_on(most, heeds, sink);
-        }
-        let found = self.leap_again(most.min(ahead), heeds);
-        Ok(unless_moved(found, index, self.index()))
+        let kept = self.checkpoints.get(number);
+        kept.put_back(&mut self.board, &mut self.history);
     }
 }

@@ -2,7 +2,6 @@
 //! slots that keep an index. What it does changes nothing of what the run gives out.
 #![tactic(auto)]
 
-mod back;
 mod breakpoints;
 mod checkpoints;
 mod history;
@@ -10,10 +9,10 @@ mod kept;
 pub mod laws;
 mod leap;
 mod motion;
-mod playing;
+mod place;
 mod session;
 mod silent;
-mod travel;
+mod story;
 
 pub use breakpoints::Full;
 pub use motion::{Motion, MotionEnd};

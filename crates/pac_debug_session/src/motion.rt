@@ -5,7 +5,7 @@ ghost use Rattle.pac_debug_session.specs.Motions.{motion_ending};
 ghost use Rattle.pac_debug_session.specs.MotionsProofs.{stop_of};
 ghost use Rattle.pac_debug_session.specs.Strides.{heeds, longest_stride};
 
-use crate::travel::CHECKPOINT_STEPS;
+use crate::leap::CHECKPOINT_STEPS;
 use pac_board_course::Stop;
 
 /// A motion forwards.

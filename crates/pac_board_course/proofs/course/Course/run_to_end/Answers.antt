@@ -1,9 +1,9 @@
 -- From frame to frame, to the end of the run.
-use Rattle.std.proofs.Common.{◌≡◌, ◌≤◌, true, false, is_some, rules}
+use Rattle.std.proofs.Common.{◌≡◌, ◌<◌, ◌≤◌, true, is_some, rules}
 use Rattle.std.proofs.lemmas.Result.{err_from_is_err_and}
 use Rattle.pac_board.specs.SinksLaws.{by}
 use Rattle.pac_board_course.specs.Course.{end_of}
-use Rattle.pac_board_course.proofs.Whole.{underway-held-up, underway-closed, underway-more, underway-ends}
+use Rattle.pac_board_course.proofs.Whole.{underway-held-up, underway-stopped, underway-on, underway-ends}
 use Rattle.pac_board_course.proofs.course.Course.run_to_end.Goals as goal
 
 pub returns-in_err-stop : goal.returns-in_err-stop
@@ -16,14 +16,14 @@ returns-in_err-stop g c =
 pub returns-then-is_some : goal.returns-then-is_some
 returns-then-is_some g c =
     let met : is_some c.in_ok-stop.stop ≡ true = search rules in
-    underway-closed (by g.S.Sink.took g.S.Sink.refused) c.args.self.now c.args.sink.now c.frames.self c.play_frame.new.self
-    c.in_ok-stop.stop c.frames.sink c.play_frame.new.sink c.frames.invariant met c.in_ok-stop.ensures
+    let early : c.frames.self.board.state.now.time < end_of c.frames.self = search rules in
+    underway-stopped (by g.S.Sink.took g.S.Sink.refused) c.args.self.now c.args.sink.now c.frames.self c.play_frame.new.self
+    c.in_ok-stop.stop c.frames.sink c.play_frame.new.sink c.frames.invariant early met c.in_ok-stop.ensures
 
 pub frames-preserved : goal.frames-preserved
 frames-preserved g c =
-    let open_yet : is_some c.in_ok-stop.stop ≡ false = search rules in
-    underway-more (by g.S.Sink.took g.S.Sink.refused) c.args.self.now c.args.sink.now c.frames.self c.play_frame.new.self
-    c.in_ok-stop.stop c.frames.sink c.play_frame.new.sink c.frames.invariant open_yet c.in_ok-stop.ensures
+    underway-on (by g.S.Sink.took g.S.Sink.refused) c.args.self.now c.args.sink.now c.frames.self c.play_frame.new.self c.frames.sink
+    c.play_frame.new.sink c.frames.invariant c.in_ok-stop.ensures.played
 
 pub returns : goal.returns
 returns g c =

@@ -20,16 +20,20 @@ pub invariant_of-self : goal.invariant_of-self
 invariant_of-self g c =
     let old : CourseValue = record { board = c.args.board.now; script = c.args.script.now; gone = 0 } in
     still-there (next_in old) (min c.args.limit (frame_end old)) c.args.board.now.state.now c.go.new.board.state.now
-    c.self.inside.told
-    c.go.new.told c.self.invariant c.go.ensures.told
+    c.self.inside.told c.go.new.told c.self.invariant c.go.ensures.told_is
 
-pub returns-clause-told : goal.returns-clause-told
-returns-clause-told g c =
+pub returns : goal.returns
+returns g c =
     let old : CourseValue = record { board = c.args.board.now; script = c.args.script.now; gone = 0 } in
     let until = min c.args.limit (frame_end old) in
     let from = c.args.board.now.state.now in
     let to = c.go.new.board.state.now in
-    let there = still-there (next_in old) until from to c.self.inside.told c.go.new.told c.self.invariant c.go.ensures.told in
-    subst (λ told. IsNoted (next_in old) until from to told (Some (told_of c.go.new.told))) (some-there c.self.inside.told
-    c.self.invariant ∙ ap Some c.self.view_is)
-    (noted-at (next_in old) c.go.ensures.told refl (sym (some-there c.go.new.told there)))
+    let there = still-there (next_in old) until from to c.self.inside.told c.go.new.told c.self.invariant c.go.ensures.told_is in
+    record {
+      made = c.go.ensures.made;
+      told_is =
+          subst (λ told. IsNoted (next_in old) until from to told (Some (told_of c.go.new.told)))
+          (some-there c.self.inside.told c.self.invariant ∙ ap Some c.self.view_is)
+          (noted-at (next_in old) c.go.ensures.told_is refl (sym (some-there c.go.new.told there)));
+      passes = c.go.ensures.passes;
+    }

@@ -1,22 +1,26 @@
 -- To the end of the run.
-use Rattle.std.proofs.Common.{inl, inr}
+use Rattle.std.proofs.Common.{inl, inr, ap, ◌∙◌, arith}
 use Rattle.std.proofs.lemmas.Result.{err_from_is_err_and}
+use Rattle.pac_board_course.specs.Course.{outcome_at}
 use Rattle.pac_board_course.specs.SinksLaws.{by}
-use Rattle.pac_debug_session.proofs.Finished.{finished, finish-refused, rests-there}
+use Rattle.pac_board_course.specs.Step.{Moment}
+use Rattle.pac_debug_session.proofs.Finished.{finished, finish-refused}
+use Rattle.pac_debug_session.proofs.Travelled.{time-near}
 use Rattle.pac_debug_session.proofs.session.Session.finish.Goals as goal
 
-pub outcome-requires : goal.outcome-requires
-outcome-requires g c = (
-  c.offer.new.self.index,
-  rests-there c.offer.new.self c.travel.new.self c.offer.new.self.index c.travel.new.self.index c.in_ok-ending.ending
-      c.in_ok-ending.ensures.session c.in_ok-ending.ensures.why_is,
-)
+pub outcome_on-requires : goal.outcome_on-requires
+outcome_on-requires g c =
+    let s = c.travel.new.self in
+    let near = time-near s.setting s.index in
+    let short = c.facts.ensures.short in
+    let time = ap (λ (m : Moment _). m.time) c.board.ensures.now in
+    omega arith
 
 pub returns : goal.returns
 returns g c =
     finished (by g.S.Sink.took g.S.Sink.refused) c.args.self.now c.args.sink.now c.offer.new.sink c.in_ok-offer.ensures.1 c.offer.new.self
-    c.travel.new.self c.travel.new.sink c.in_ok-ending.ending c.outcome.result c.in_ok-offer.ensures.0 c.in_ok-ending.ensures
-    c.outcome.ensures c.facts.ensures
+    c.travel.new.self c.travel.new.sink c.in_ok-ending.ending c.outcome_on.result c.in_ok-offer.ensures.0 c.in_ok-ending.ensures
+    (c.outcome_on.ensures ∙ (λ i. outcome_at (c.board.ensures.now i) (c.stop.ensures i))) c.facts.ensures
 
 pub returns-in_err-offer : goal.returns-in_err-offer
 returns-in_err-offer g c =

@@ -1,122 +1,95 @@
 -- What stood before the steps stands after them, and what they gave was offered.
-use Rattle.std.proofs.Common.{◌≡◌, List, ◌+◌, ◌-◌, ◌*◌, ◌%◌, min, max, map, Some, ap, sym, subst, ◌∙◌, arith, rules}
+use Rattle.std.proofs.Common.{◌≡◌, ◌+◌, ◌-◌, ◌*◌, ◌%◌, min, max, nat_lt, ap, sym, subst, ◌∙◌, arith, rules}
 use Rattle.pac_board_course.specs.RomParts.{Parts}
-use Rattle.pac_board_course.specs.Course.{CourseValue, next_in}
-use Rattle.pac_board_course.specs.Frames.{frame_end}
 use Rattle.pac_board_course.specs.SinksLaws.{by}
-use Rattle.pac_board_course.specs.State.{BoardValue, nothing_due}
-use Rattle.pac_board_course.specs.StopsProofs.{PassesBy}
-use Rattle.pac_board_course.specs.Stretch.{Stretch}
-use Rattle.pac_board_course.specs.Told.{PlaysTold}
-use Rattle.pac_board_course.specs.Trails.{IsNoted}
+use Rattle.pac_board_course.specs.State.{nothing_due}
+use Rattle.pac_board_course.specs.Step.{Moment}
 use Rattle.pac_debug_session.specs.Breakpoints.{heeded_if}
-use Rattle.pac_debug_session.specs.Inside.{IsStanding, AreSlotsRight}
-use Rattle.pac_debug_session.specs.Keeping.{Ring, kept_of, ring_after_index, mark_of}
+use Rattle.pac_debug_session.specs.Inside.{IsStanding, AreSlotsRight, session_view}
+use Rattle.pac_debug_session.specs.Keeping.{kept_of, ring_after_index}
 use Rattle.pac_debug_session.specs.Motions.{checkpoint_steps}
+use Rattle.pac_debug_session.specs.Running.{now_at}
 use Rattle.pac_debug_session.specs.Session.{SessionValue}
-use Rattle.pac_debug_session.specs.Strides.{Leaps}
-use Rattle.pac_debug_session.proofs.Leapt.{leapt-on, leapt-so}
-use Rattle.pac_debug_session.proofs.Steppings.{right-later, with_board}
+use Rattle.pac_debug_session.specs.Strides.{Leaps, stop_unless}
+use Rattle.pac_debug_session.proofs.Leapt.{session_on, taken-up, leaps-so, stands-then, set-then, asked-then}
+use Rattle.pac_debug_session.proofs.Steppings.{IsLeft, left, right-later}
 use Rattle.pac_debug_session.proofs.session.Session.leap.Goals as goal
-
--- a board's course from power-on
-abbrev course-with : List Stretch → BoardValue → CourseValue
-course-with script board = record { board = board; script = script; gone = 0 }
 
 pub invariant_of-self : goal.invariant_of-self
 invariant_of-self g c =
     let inside = c.self.inside in
+    let old = session_view inside in
+    let right = c.self.invariant in
+    let stands = right.standing in
     let board = inside.board.value in
     let new = c.go-played.new.board in
     let to = by g.S.Sink.took g.S.Sink.refused in
-    let limited = c.time.result + 4 * c.min-most.result in
+    let limit = c.time.result + 4 * c.min-most.result in
     let nothing : board.state.due ≡ nothing_due = ap (λ (s : SessionValue). s.due) c.self.view_is ∙ c.requires.nothing in
-    let index_is : c.steps-index.result ≡ board.state.now.steps = search rules in
+    let index_is : c.steps-index.result ≡ old.index = search rules in
     let time_is : c.time.result ≡ board.state.now.time = search rules in
-    let end_is : c.steps.result ≡ new.state.now.steps = search rules in
-    let limit_is : c.time.result + 4 * c.min-most.result ≡ board.state.now.time + 4 * c.min-most.result
-    = ap (λ n. n + 4 * c.min-most.result) time_is in
-    let fits_is : c.min-most.result ≡ min c.args.most (checkpoint_steps - board.state.now.steps % checkpoint_steps)
+    let end_is : c.steps-now.result ≡ new.state.now.steps = search rules in
+    let limit_is : limit ≡ (now_at old.setting old.index).time + 4 * c.min-most.result
+    = ap (λ n. n + 4 * c.min-most.result) (time_is ∙ ap (λ (m : Moment _). m.time) stands.now_is) in
+    let fits_is : c.min-most.result ≡ min c.args.most (checkpoint_steps - old.index % checkpoint_steps)
     = c.min-most.ensures ∙ ap (λ n. min c.args.most (checkpoint_steps - n % checkpoint_steps)) index_is in
-    let played : PlaysTold to (course-with inside.script board) c.args.sink.now c.go-played.result (course-with inside.script new)
-    c.go-played.new.sink =
-    subst (λ (b : BoardValue). PlaysTold to (course-with inside.script b) c.args.sink.now c.go-played.result
-    (course-with inside.script new) c.go-played.new.sink) c.deref_mut.ensures.value c.go-played.ensures.made in
-    let told : IsNoted (next_in (course-with inside.script board)) (min limited (frame_end (course-with inside.script board)))
-    board.state.now new.state.now (Some inside.history) (Some c.go-played.new.self) =
-    subst (λ (b : BoardValue). IsNoted (next_in (course-with inside.script b)) (min limited (frame_end (course-with inside.script b)))
-    b.state.now new.state.now (Some inside.history) (Some c.go-played.new.self)) c.deref_mut.ensures.value
-    c.go-played.ensures.told in
-    let made = leapt-on board inside.switches inside.script inside.history inside.furthest inside.checkpoints
-    (c.time.result + 4 * c.min-most.result) c.self.invariant.standing nothing c.self.invariant.unasked
-    to c.args.sink.now c.go-played.new.sink c.go-played.result new
-    c.go-played.new.self c.args.most c.min-most.result limit_is fits_is played
-    told in
+    let gone = taken-up to inside right c.deref_mut.result.now new limit c.stops-stops.result c.args.sink.now c.go-played.new.sink
+    c.go-played.result c.go-played.new.self c.deref_mut.ensures.value c.go-played.ensures in
     let far : max inside.furthest new.state.now.steps ≡ c.max-self-inside.result
     = sym (c.max-self-inside.ensures ∙ ap (λ n. max inside.furthest n) end_is) in
-    let taken : c.take_at.new.checkpoints ≡ ring_after_index c.steps-index.result inside.checkpoints (kept_of board inside.history)
-    = search rules in
     let ring : ring_after_index board.state.now.steps inside.checkpoints (kept_of board inside.history) ≡ c.take_at.new.checkpoints
-    = ap (λ n. ring_after_index n inside.checkpoints (kept_of board inside.history)) (sym index_is) ∙ sym taken in
+    = search rules in
+    let kept : IsLeft old.setting old.index old.furthest c.take_at.new.checkpoints =
+    subst (IsLeft old.setting old.index old.furthest) ring
+    (left old.setting board inside.history old.furthest inside.checkpoints stands nothing right.unasked) in
     record {
-      limit = c.self.invariant.limit;
-      short = c.self.invariant.short;
-      unasked = made.asked ∙ c.self.invariant.unasked;
+      limit = right.limit;
+      short = right.short;
+      unasked =
+          asked-then old stands.within stands.goes to c.args.sink.now c.go-played.new.sink limit c.stops-stops.result new
+          c.go-played.new.self c.go-played.result gone;
       standing =
-          subst (λ n. IsStanding (record { set = new.set; switches = inside.switches; script = inside.script }) new.state.now
-          c.go-played.new.self n c.take_at.new.checkpoints) far
-          (subst (λ (after : Ring). IsStanding (record { set = new.set; switches = inside.switches; script = inside.script }) new.state.now
-          c.go-played.new.self (max inside.furthest new.state.now.steps) after) ring made.standing);
+          subst (λ n. IsStanding (session_on old new).setting new.state.now c.go-played.new.self n c.take_at.new.checkpoints) far
+          (stands-then old stands.within stands.goes to c.args.sink.now c.go-played.new.sink limit c.stops-stops.result new
+          c.go-played.new.self c.go-played.result gone c.args.most c.min-most.result limit_is fits_is c.take_at.new.checkpoints kept);
       slots =
-          subst (λ (set : Parts). AreSlotsRight (record { set = set; switches = inside.switches; script = inside.script })
-          c.max-self-inside.result inside.slots.items) (sym made.set)
-          (right-later (record { set = board.set; switches = inside.switches; script = inside.script }) inside.furthest
-          c.max-self-inside.result inside.slots.items (omega arith) c.self.invariant.slots);
-      breakpoints = c.self.invariant.breakpoints;
+          subst (λ (set : Parts). AreSlotsRight (record old.setting { set = set }) c.max-self-inside.result inside.slots.items)
+          (sym (set-then old stands.within stands.goes to c.args.sink.now c.go-played.new.sink limit c.stops-stops.result new
+          c.go-played.new.self c.go-played.result gone))
+          (right-later old.setting inside.furthest c.max-self-inside.result inside.slots.items (omega arith) right.slots);
+      breakpoints = right.breakpoints;
     }
 
 pub returns : goal.returns
 returns g c =
     let inside = c.self.inside in
+    let old = session_view inside in
+    let right = c.self.invariant in
+    let stands = right.standing in
     let board = inside.board.value in
     let new = c.go-played.new.board in
     let to = by g.S.Sink.took g.S.Sink.refused in
-    let marks = map mark_of inside.slots.items in
-    let limited = c.time.result + 4 * c.min-most.result in
+    let limit = c.time.result + 4 * c.min-most.result in
     let nothing : board.state.due ≡ nothing_due = ap (λ (s : SessionValue). s.due) c.self.view_is ∙ c.requires.nothing in
-    let heeded = heeded_if c.args.heeds inside.breakpoints in
-    let passes = subst (λ (b : BoardValue). PassesBy (next_in (course-with inside.script b)) c.stops-stops.result b.state.now
-    new.state.now.steps) c.deref_mut.ensures.value c.go-played.ensures.passes in
-    let index_is : c.steps-index.result ≡ board.state.now.steps = search rules in
+    let index_is : c.steps-index.result ≡ old.index = search rules in
     let time_is : c.time.result ≡ board.state.now.time = search rules in
-    let end_is : c.steps.result ≡ new.state.now.steps = search rules in
-    let limit_is : c.time.result + 4 * c.min-most.result ≡ board.state.now.time + 4 * c.min-most.result
-    = ap (λ n. n + 4 * c.min-most.result) time_is in
-    let fits_is : c.min-most.result ≡ min c.args.most (checkpoint_steps - board.state.now.steps % checkpoint_steps)
+    let end_is : c.steps-now.result ≡ new.state.now.steps = search rules in
+    let limit_is : limit ≡ (now_at old.setting old.index).time + 4 * c.min-most.result
+    = ap (λ n. n + 4 * c.min-most.result) (time_is ∙ ap (λ (m : Moment _). m.time) stands.now_is) in
+    let fits_is : c.min-most.result ≡ min c.args.most (checkpoint_steps - old.index % checkpoint_steps)
     = c.min-most.ensures ∙ ap (λ n. min c.args.most (checkpoint_steps - n % checkpoint_steps)) index_is in
-    let played : PlaysTold to (course-with inside.script board) c.args.sink.now c.go-played.result (course-with inside.script new)
-    c.go-played.new.sink =
-    subst (λ (b : BoardValue). PlaysTold to (course-with inside.script b) c.args.sink.now c.go-played.result
-    (course-with inside.script new) c.go-played.new.sink) c.deref_mut.ensures.value c.go-played.ensures.made in
-    let told : IsNoted (next_in (course-with inside.script board)) (min limited (frame_end (course-with inside.script board)))
-    board.state.now new.state.now (Some inside.history) (Some c.go-played.new.self) =
-    subst (λ (b : BoardValue). IsNoted (next_in (course-with inside.script b)) (min limited (frame_end (course-with inside.script b)))
-    b.state.now new.state.now (Some inside.history) (Some c.go-played.new.self)) c.deref_mut.ensures.value
-    c.go-played.ensures.told in
-    let made = leapt-on board inside.switches inside.script inside.history inside.furthest inside.checkpoints limited
-    c.self.invariant.standing nothing c.self.invariant.unasked to c.args.sink.now c.go-played.new.sink c.go-played.result new
-    c.go-played.new.self c.args.most c.min-most.result limit_is fits_is played
-    told in
+    let gone = taken-up to inside right c.deref_mut.result.now new limit c.stops-stops.result c.args.sink.now c.go-played.new.sink
+    c.go-played.result c.go-played.new.self c.deref_mut.ensures.value c.go-played.ensures in
     let far : max inside.furthest new.state.now.steps ≡ c.max-self-inside.result
     = sym (c.max-self-inside.ensures ∙ ap (λ n. max inside.furthest n) end_is) in
-    let leaps = leapt-so board inside.switches inside.script inside.history inside.furthest inside.checkpoints limited
-    c.self.invariant.standing nothing c.self.invariant.unasked to c.args.sink.now c.go-played.new.sink new
-    c.go-played.new.self c.args.most c.min-most.result limit_is fits_is told heeded
-    c.stops-stops.result c.stops-stops.ensures passes inside.breakpoints marks inside.replayed c.go-played.result played made in
-    subst (λ (s : SessionValue). Leaps to s (heeded_if c.args.heeds s.breakpoints) c.args.most c.args.sink.now c.go-played.result
-    (with_board inside.switches inside.script new c.max-self-inside.result inside.breakpoints marks inside.replayed)
-    c.go-played.new.sink) c.self.view_is
-    (subst (λ n. Leaps to
-    (with_board inside.switches inside.script board inside.furthest inside.breakpoints marks inside.replayed) heeded c.args.most
-    c.args.sink.now c.go-played.result
-    (with_board inside.switches inside.script new n inside.breakpoints marks inside.replayed) c.go-played.new.sink) far leaps)
+    let heeded = heeded_if c.args.heeds old.breakpoints in
+    let moved : c.unless_moved.result ≡ stop_unless (nat_lt old.index new.state.now.steps) c.go-played.result
+    = c.unless_moved.ensures ∙ (λ i. stop_unless (nat_lt (index_is i) (end_is i)) c.go-played.result) in
+    let leaps = leaps-so old stands.within stands.goes to c.args.sink.now c.go-played.new.sink limit c.stops-stops.result new
+    c.go-played.new.self c.args.most c.min-most.result limit_is fits_is heeded c.stops-stops.ensures c.go-played.result gone in
+    subst (λ (s : SessionValue). Leaps to s (heeded_if c.args.heeds s.breakpoints) c.args.most c.args.sink.now c.unless_moved.result
+    (record (session_on old new) { furthest = c.max-self-inside.result }) c.go-played.new.sink) c.self.view_is
+    (subst (λ result. Leaps to old heeded c.args.most c.args.sink.now result
+    (record (session_on old new) { furthest = c.max-self-inside.result }) c.go-played.new.sink) (sym moved)
+    (subst (λ n. Leaps to old heeded c.args.most c.args.sink.now (stop_unless (nat_lt old.index new.state.now.steps) c.go-played.result)
+    (record (session_on old new) { furthest = n }) c.go-played.new.sink) far leaps))
