@@ -165,6 +165,27 @@ typedef struct pac_live {
     uint64_t seal; /* whether a board lies there: by one number alone */
 } pac_live;
 
+/* Why pac_live_until ended. */
+enum {
+    PAC_UNTIL_TIME = 1,  /* the time is over */
+    PAC_UNTIL_PLACE = 2, /* the board is before an address of the set */
+    PAC_UNTIL_STOP = 3,  /* the board can't go on */
+    PAC_UNTIL_FULL = 4,  /* the buffer has no room for the next sample */
+};
+
+/* What a call of `pac_live_until` did. */
+typedef struct pac_until {
+    uint64_t ticks;    /* T-states that went by */
+    uint32_t samples;  /* samples that were given, at the head of the buffer */
+    uint32_t pictures; /* vertical blanks that came: pictures that were finished */
+    uint32_t why;      /* why it ended */
+    uint32_t stop;     /* why the board stopped; 0 where it didn't, and then `bytes` and `vector` are 0 */
+    uint16_t pc;       /* where the board is */
+    uint8_t bytes[4];  /* the bytes from there on at a stop */
+    uint8_t vector;    /* the interrupt vector where that is the reason of a stop, and else 0 */
+    uint8_t zero;      /* 0 */
+} pac_until;
+
 /* The registers of a board by their names (UM0080, "Z80 CPU Register Description"). */
 typedef struct pac_registers {
     uint64_t time;          /* T-states since power-on */
@@ -275,6 +296,17 @@ uint32_t pac_live_exec(pac_live *live, uint32_t microseconds, int16_t *samples, 
  * PAC_ROOM: room for 2 samples is always enough. */
 uint32_t pac_live_step(pac_live *live, int16_t *samples, size_t capacity, pac_ran *ran);
 
+/* Goes on until so many T-states are over from now, and at most 22 longer; or the board is before an address of the set; or it can't go on;
+ * or the buffer has no room for the next sample. `ran->why` tells which of these: of the first two the address. `places` has 65,536 bytes,
+ * one for each address, which isn't 0 where it is in the set; or none, and then no address is. Where there is time, one step at least is
+ * done, so that the board goes on from an address that it is at. The samples go to the head of `samples`. What had no room stays due, in
+ * the block, too, and the next call gives it first: that call then goes on as this one would have, and ends at once where the board is at
+ * an address of the set. Without any room a board goes on up to the step that gives a sample, and then no further. What was asked in all
+ * stays, so `pac_live_exec` goes on from there to the time that it would have gone to.
+ * PAC_CLOSED. PAC_TIME: the time would pass 2^52 T-states. PAC_LENGTH: `places` has neither 65,536 bytes nor none. */
+uint32_t pac_live_until(pac_live *live, uint32_t ticks, const uint8_t *places, size_t places_length, int16_t *samples, size_t capacity,
+                        pac_until *ran);
+
 /* Writes what the processor would read at as many addresses as `bytes` has room for, the first of which is `address`: as `pac_peek`.
  * PAC_CLOSED. */
 uint32_t pac_live_peek(pac_live *live, uint16_t address, uint8_t *bytes, size_t bytes_length);
@@ -384,6 +416,13 @@ static inline uint32_t pac_live_step_checked(pac_live *live, int16_t *samples, s
     return live && samples && ran ? pac_live_step(live, samples, capacity, ran) : (uint32_t)PAC_NULL;
 }
 
+static inline uint32_t pac_live_until_checked(pac_live *live, uint32_t ticks, const uint8_t *places, size_t places_length,
+                                              int16_t *samples, size_t capacity, pac_until *ran)
+{
+    return live && places && samples && ran ? pac_live_until(live, ticks, places, places_length, samples, capacity, ran)
+                                            : (uint32_t)PAC_NULL;
+}
+
 static inline uint32_t pac_live_peek_checked(pac_live *live, uint16_t address, uint8_t *bytes, size_t bytes_length)
 {
     return live && bytes ? pac_live_peek(live, address, bytes, bytes_length) : (uint32_t)PAC_NULL;
@@ -411,9 +450,11 @@ static inline uint32_t pac_live_load_checked(pac_live *live, const uint8_t *text
 
 #ifdef __cplusplus
 }
-static_assert(sizeof(pac_board) == PAC_BOARD_SIZE && sizeof(pac_ran) == 32 && sizeof(pac_registers) == 48, "the library's layout");
+static_assert(sizeof(pac_board) == PAC_BOARD_SIZE && sizeof(pac_ran) == 32 && sizeof(pac_registers) == 48 &&
+               sizeof(pac_until) == 32, "the library's layout");
 #else
-_Static_assert(sizeof(pac_board) == PAC_BOARD_SIZE && sizeof(pac_ran) == 32 && sizeof(pac_registers) == 48, "the library's layout");
+_Static_assert(sizeof(pac_board) == PAC_BOARD_SIZE && sizeof(pac_ran) == 32 && sizeof(pac_registers) == 48 &&
+               sizeof(pac_until) == 32, "the library's layout");
 #endif
 
 #endif

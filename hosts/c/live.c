@@ -1,5 +1,6 @@
 /* Tries the calls of a live board: random lists of them, each made on a block of the same ROMs, too, with all answers and all bytes compared,
- * on several boards at once; single steps; and handles that aren't open.
+ * on several boards at once; single steps; stops at addresses and full buffers, by single steps of another live board; time that is cut; and
+ * handles that aren't open.
  *
  *   live ROMS
  *
@@ -19,7 +20,7 @@
 enum {
     THREADS = 4,
     LISTS = 5,      /* of a thread */
-    CALLS = 1000,   /* of a list, at least */
+    CALLS = 1300,   /* of a list, at least */
     LEAST = 5,      /* answers of a kind */
     STEPPED = 200,  /* frames, the last of which is done by single steps */
     PROGRAM = 16384,
@@ -29,27 +30,35 @@ enum {
     ALIGNED = 16,
     UNTOUCHED = 0x55,
     STEP_CALLS = 8, /* calls of a microsecond, in which a step of a block comes */
+    PLACES = 65536, /* bytes of a set */
+    STOPS = 19000,  /* at addresses of a set, at least */
+    CUTS = 60,      /* frames whose time is cut, of a list */
 };
 
 /* What a call writes: what it doesn't is as before. */
 typedef struct written {
     int16_t samples[ROOM];
     pac_ran ran;
+    pac_until until;
     uint8_t rgba[PAC_RGBA_SIZE], text[PAC_STATE_SIZE], bytes[PEEKED];
 } written;
 
-/* A live board and a block, on which the same calls are made. */
+/* A live board and a block, on which the same calls are made, and another live board, which does so by single steps. */
 typedef struct pair {
-    pac_live live;
+    pac_live live, stepped;
     pac_board block, given, kept;
-    uint8_t roms[PAC_ROMS_SIZE], file[PAC_STATE_SIZE + 1];
+    uint8_t roms[PAC_ROMS_SIZE], file[PAC_STATE_SIZE + 1], places[PLACES];
     written by_live, by_block;
     uint64_t random;
     long calls, answered[PAC_NULL], stopped[PAC_STOP_VECTOR + 1]; /* and how often each code was answered, and each stop was met */
+    long ended[PAC_UNTIL_FULL + 1];                               /* and how often a call ended for each reason */
+    int16_t late; /* a sample that had no room, and what is due then */
+    uint8_t due;
     int passed, failed;
 } pair;
 
 static const uint64_t MOST_ASKED = (uint64_t)1 << 50; /* microseconds of a board */
+static const uint64_t LATEST = (uint64_t)1 << 52;     /* T-states of a board */
 
 static uint8_t read_roms[PAC_ROMS_SIZE + 1];
 static pair *pairs[THREADS];
@@ -170,6 +179,111 @@ static void step_both(pair *it)
     }
 }
 
+/* Whether an address is in the set of which so many bytes are handed over. */
+static int is_place(const pair *it, size_t length, uint16_t address)
+{
+    return length != 0 && it->places[address] != 0;
+}
+
+/* Takes what is due from the block, if there is room for the sample; whether there was. */
+static int take_due(pair *it, size_t room, pac_until *told)
+{
+    uint8_t due = it->block.bytes[PAC_AT_DUE];
+    if ((due & 1) != 0 && room == 0)
+        return 0;
+    if ((due & 1) != 0)
+        it->by_block.samples[told->samples++] = (int16_t)number(&it->block, PAC_AT_SAMPLE, 2);
+    told->pictures += due >> 1;
+    memset(it->block.bytes + PAC_AT_DUE, 0, PAC_AT_PICTURE - PAC_AT_DUE);
+    return 1;
+}
+
+/* One step of the other live board. Where there is no room for its sample, what it gave is due in the block then. */
+static void step_until(pair *it, size_t room, pac_until *told)
+{
+    int16_t given[2];
+    pac_ran part;
+    if (pac_live_step(&it->stepped, given, 2, &part) != PAC_DONE || part.samples > 1)
+        told->why = PAC_NULL;
+    else if (part.stop != PAC_GOES)
+        told->why = PAC_UNTIL_STOP, told->stop = part.stop, told->vector = part.vector, memcpy(told->bytes, part.bytes, sizeof part.bytes);
+    else if (part.samples == 1 && told->samples == room)
+        told->why = PAC_UNTIL_FULL, it->late = given[0], it->due = (uint8_t)(1 | part.pictures << 1);
+    else {
+        if (part.samples == 1)
+            it->by_block.samples[told->samples++] = given[0];
+        told->pictures += part.pictures;
+    }
+}
+
+/* Goes on with the block: what pac_live_until has to do, by single steps of the other live board. */
+static uint32_t until_block(pair *it, uint32_t ticks, size_t length, size_t room)
+{
+    uint64_t begun = number(&it->block, PAC_AT_TIME, 8), limit = begun + ticks;
+    int was_due = it->block.bytes[PAC_AT_DUE] != 0;
+    pac_until told = {0};
+    pac_registers now = {0};
+    if (length != 0 && length != PLACES)
+        return PAC_LENGTH;
+    if (limit > LATEST)
+        return PAC_TIME;
+    if (!take_due(it, room, &told))
+        told.why = PAC_UNTIL_FULL, told.pc = (uint16_t)number(&it->block, PAC_AT_PC, 2);
+    else if (pac_live_put(&it->stepped, it->roms, PAC_ROMS_SIZE, &it->block) == PAC_DONE) {
+        pac_live_registers(&it->stepped, &now);
+        told.why = was_due && is_place(it, length, now.pc) ? PAC_UNTIL_PLACE : 0;
+        while (told.why == 0 && now.time < limit) {
+            step_until(it, room, &told);
+            pac_live_registers(&it->stepped, &now);
+            if (told.why == 0 && is_place(it, length, now.pc))
+                told.why = PAC_UNTIL_PLACE;
+        }
+        pac_live_give(&it->stepped, &it->block);
+        if (told.why == PAC_UNTIL_FULL)
+            it->block.bytes[PAC_AT_DUE] = it->due, it->block.bytes[PAC_AT_SAMPLE] = (uint8_t)it->late,
+            it->block.bytes[PAC_AT_SAMPLE + 1] = (uint8_t)((uint16_t)it->late >> 8);
+        told.why = told.why == 0 ? PAC_UNTIL_TIME : told.why;
+        told.ticks = now.time - begun, told.pc = now.pc;
+    }
+    it->by_block.until = told;
+    return PAC_DONE;
+}
+
+/* Lays a set: of no address, of all, of the last, of some anywhere, or of some at which the board will be. */
+static void lay_places(pair *it)
+{
+    int16_t given[2];
+    pac_ran part;
+    pac_registers now = {0};
+    uint32_t kind = below(it, 12), left = 1 + below(it, 4);
+    memset(it->places, kind == 0 ? 1 + (int)below(it, 255) : 0, PLACES);
+    it->places[PLACES - 1] |= kind == 1;
+    while (kind == 2 && left-- > 0)
+        it->places[below(it, PLACES)] = (uint8_t)(1 + below(it, 255));
+    if (kind > 3 && pac_live_put(&it->stepped, it->roms, PAC_ROMS_SIZE, &it->block) == PAC_DONE)
+        while (left-- > 0) {
+            for (uint32_t step = below(it, 40); step > 0 && pac_live_step(&it->stepped, given, 2, &part) == PAC_DONE; step--)
+                continue;
+            if (pac_live_registers(&it->stepped, &now) == PAC_DONE)
+                it->places[now.pc] = (uint8_t)(1 + below(it, 255));
+        }
+}
+
+/* Goes on by some calls one after another, mostly with room enough and a set of the right length. */
+static void until_both(pair *it)
+{
+    pac_live handle = it->live;
+    lay_places(it);
+    for (uint32_t left = 1 + below(it, 16); left > 0 && number(&it->block, PAC_AT_TIME, 8) < MOST_ASKED * 3; left--) {
+        size_t room = below(it, 4) != 0 ? ROOM : below(it, 6), length = below(it, 16) != 0 ? PLACES : below(it, 2) * below(it, PLACES + 2);
+        uint32_t ticks = below(it, 12) != 0 ? below(it, 1500) : below(it, 3) * below(it, 60000);
+        ticks = below(it, 200) != 0 ? ticks : UINT32_MAX;
+        uint32_t code = pac_live_until(&it->live, ticks, it->places, length, it->by_live.samples, room, &it->by_live.until);
+        compare(it, "pac_live_until", code, until_block(it, ticks, length, room), &handle);
+        it->ended[code == PAC_DONE ? it->by_live.until.why % (PAC_UNTIL_FULL + 1) : 0]++;
+    }
+}
+
 /* A run, mostly a short one with room enough. */
 static void run_both(pair *it)
 {
@@ -274,7 +388,7 @@ static void call_both(pair *it)
     pac_live handle = it->live;
     uint16_t set = (uint16_t)below(it, 0x10000), clear = (uint16_t)below(it, 0x10000);
     it->calls++;
-    switch (below(it, 24)) {
+    switch (below(it, 31)) {
     case 0:
         compare(it, "pac_live_reset", pac_live_reset(&it->live), pac_reset(&it->block), &handle);
         break;
@@ -312,6 +426,15 @@ static void call_both(pair *it)
         if (below(it, 8) == 0)
             open_both(it);
         break;
+    case 15:
+    case 16:
+    case 17:
+    case 18:
+    case 19:
+    case 20:
+    case 21:
+        until_both(it);
+        break;
     default:
         run_both(it);
     }
@@ -328,6 +451,51 @@ static void lay_roms(pair *it, int list)
     }
 }
 
+/* A part of a frame, which ends before the frame does: some T-states, a step, or some microseconds of those that are left. */
+static uint32_t part_of(pair *it, int16_t *samples, size_t room, uint32_t *left, uint32_t *given)
+{
+    pac_ran part = {0};
+    pac_until told = {0};
+    uint32_t asked = below(it, *left / 8 + 1), code = PAC_DONE;
+    switch (below(it, 4)) {
+    case 0:
+        code = pac_live_step(&it->live, samples, room, &part);
+        break;
+    case 1:
+        code = pac_live_exec(&it->live, asked, samples, room, &part);
+        *left -= asked;
+        break;
+    default:
+        code = pac_live_until(&it->live, below(it, 2500), it->places, below(it, 2) * PLACES, samples, below(it, 2) ? room : below(it, 40), &told);
+    }
+    *given = part.samples + told.samples;
+    return code;
+}
+
+/* Frames whose time is cut anyhow, with sets and full buffers: the samples are those of one call for a frame, and so is the board. */
+static void try_cuts(pair *it)
+{
+    pac_registers now = {0};
+    pac_ran part;
+    open_both(it);
+    pac_live handle = it->live;
+    for (int frame = 1; frame <= CUTS; frame++) {
+        uint32_t left = FRAME, given = 0, more = 0, code = PAC_DONE;
+        lay_places(it);
+        while (code == PAC_DONE && now.time + 3000 < (uint64_t)frame * FRAME * 384 / 125 && below(it, 80) != 0) {
+            code = part_of(it, it->by_live.samples + given, ROOM - given, &left, &more);
+            given += code == PAC_DONE ? more : 0;
+            pac_live_registers(&it->live, &now);
+        }
+        code = code == PAC_DONE ? pac_live_exec(&it->live, left, it->by_live.samples + given, ROOM - given, &part) : code;
+        given += part.samples;
+        uint32_t wanted = pac_exec(&it->block, it->roms, PAC_ROMS_SIZE, FRAME, it->by_block.samples, ROOM, &it->by_block.ran);
+        row(it, "as many samples", given == it->by_block.ran.samples);
+        it->by_live.ran = it->by_block.ran;
+        compare(it, "a frame whose time is cut", code, wanted, &handle);
+    }
+}
+
 /* Makes the lists of a thread. */
 static void *make_lists(void *handed)
 {
@@ -335,9 +503,11 @@ static void *make_lists(void *handed)
     for (int list = 0; list < LISTS; list++) {
         lay_roms(it, list);
         open_both(it);
+        row(it, "another live board", pac_live_open(&it->stepped, it->roms, PAC_ROMS_SIZE, 0) == PAC_DONE);
         it->kept = it->block;
         for (int call = 0; call < CALLS; call++)
             call_both(it);
+        try_cuts(it);
     }
     return handed;
 }
@@ -383,6 +553,8 @@ static void try_closed(pair *it, const char *what, pac_live live)
     is_so &= pac_live_exec(&live, FRAME, it->by_live.samples, ROOM, &it->by_live.ran) == PAC_CLOSED;
     is_so &= pac_live_exec(&live, FRAME, it->by_live.samples, 0, &it->by_live.ran) == PAC_CLOSED;
     is_so &= pac_live_step(&live, it->by_live.samples, ROOM, &it->by_live.ran) == PAC_CLOSED;
+    is_so &= pac_live_until(&live, 1, it->places, PLACES, it->by_live.samples, ROOM, &it->by_live.until) == PAC_CLOSED;
+    is_so &= pac_live_until(&live, UINT32_MAX, it->places, 1, it->by_live.samples, 0, &it->by_live.until) == PAC_CLOSED;
     is_so &= pac_live_peek(&live, 0, it->by_live.bytes, PEEKED) == PAC_CLOSED;
     is_so &= pac_live_draw(&live, it->by_live.rgba, PAC_RGBA_SIZE) == PAC_CLOSED && pac_live_draw(&live, it->by_live.rgba, 1) == PAC_CLOSED;
     is_so &= pac_live_save(&live, it->by_live.text, PAC_STATE_SIZE) == PAC_CLOSED;
@@ -430,6 +602,8 @@ static void try_null(pair *it)
     is_so &= pac_live_hold_checked(NULL, 0, 0) == PAC_NULL && pac_live_registers_checked(&it->live, NULL) == PAC_NULL;
     is_so &= pac_live_exec_checked(&it->live, 1, it->by_live.samples, ROOM, NULL) == PAC_NULL;
     is_so &= pac_live_step_checked(&it->live, NULL, ROOM, &it->by_live.ran) == PAC_NULL;
+    is_so &= pac_live_until_checked(&it->live, 1, NULL, 0, it->by_live.samples, ROOM, &it->by_live.until) == PAC_NULL;
+    is_so &= pac_live_until_checked(&it->live, 1, it->places, 0, it->by_live.samples, ROOM, NULL) == PAC_NULL;
     is_so &= pac_live_peek_checked(&it->live, 0, NULL, 0) == PAC_NULL && pac_live_draw_checked(&it->live, NULL, PAC_RGBA_SIZE) == PAC_NULL;
     is_so &= pac_live_save_checked(&it->live, NULL, 0) == PAC_NULL && pac_live_load_checked(&it->live, NULL, 0) == PAC_NULL;
     row(it, "a pointer that is null", is_so);
@@ -452,6 +626,13 @@ static void try_answers(void)
             stopped += pairs[thread]->stopped[stop];
         row(pairs[0], "a stop that is met", stopped >= LEAST);
     }
+    for (int why = PAC_UNTIL_TIME; why <= PAC_UNTIL_FULL; why++) {
+        long ended = 0;
+        for (int thread = 0; thread < THREADS; thread++)
+            ended += pairs[thread]->ended[why];
+        row(pairs[0], "a reason to end", ended >= (why == PAC_UNTIL_PLACE ? STOPS : LEAST));
+        printf("%ld calls that ended for reason %d\n", ended, why);
+    }
 }
 
 /* Makes a pair whose handle is closed, with numbers of its own. */
@@ -460,6 +641,7 @@ static pair *made(int thread)
     size_t size = pac_live_size();
     pair *it = guarded((sizeof *it + ALIGNED - 1) / ALIGNED * ALIGNED);
     it->live.at = guarded((size + ALIGNED - 1) / ALIGNED * ALIGNED), it->live.size = size;
+    it->stepped.at = guarded((size + ALIGNED - 1) / ALIGNED * ALIGNED), it->stepped.size = size;
     it->random = 88172645463325252u + (uint64_t)thread;
     return it;
 }

@@ -5,7 +5,6 @@
 
 #include "../pacboard.h"
 
-#include <stdbool.h>
 #include <stdlib.h>
 #include <string.h>
 
@@ -62,24 +61,12 @@ static inline uint64_t machine_time(machine *it)
     return pac_live_registers(&it->live, &now) == PAC_DONE ? now.time : 0;
 }
 
-/* Goes on to a time, T-states since power-on, or to where PC is at one of the places after a step at least: whether it is, in `met`. Samples go to
- * the head of the buffer, and `ran` has all that came. Ends early where the buffer is full. */
-static inline uint32_t machine_until(machine *it, uint64_t time, const uint8_t *places, int16_t *samples, size_t capacity, pac_ran *ran, bool *met)
+/* Goes on to a time, T-states since power-on and at most a minute from now, or to where PC is at one of the places after a step at least. Samples go
+ * to the head of the buffer; a full one is an answer. */
+static inline uint32_t machine_until(machine *it, uint64_t time, const uint8_t *places, int16_t *samples, size_t capacity, pac_until *ran)
 {
-    pac_registers now = {0};
-    pac_ran all = {0};
-    uint32_t code = pac_live_registers(&it->live, &now);
-    for (*met = false; code == PAC_DONE && all.stop == PAC_GOES && !*met && now.time < time && all.samples + 2 <= capacity;) {
-        pac_ran part = {0};
-        code = pac_live_step(&it->live, samples + all.samples, capacity - all.samples, &part);
-        if (code == PAC_DONE)
-            code = pac_live_registers(&it->live, &now);
-        *met = code == PAC_DONE && part.stop == PAC_GOES && places[now.pc] != 0;
-        part.ticks += all.ticks, part.samples += all.samples, part.pictures += all.pictures;
-        all = part;
-    }
-    *ran = all;
-    return code;
+    uint64_t now = machine_time(it);
+    return pac_live_until(&it->live, time > now ? (uint32_t)(time - now) : 0, places, MACHINE_PLACES, samples, capacity, ran);
 }
 
 #endif

@@ -26,6 +26,7 @@ static uint8_t roms[PAC_ROMS_SIZE] = {0x3E, 0x42, 0x32, 0x40, 0x40, 0x76}; /* LD
 static uint8_t rgba[PAC_RGBA_SIZE], text[PAC_STATE_SIZE], old_text[PAC_STATE_SIZE];
 static int16_t samples[PAC_FRAME_SAMPLES + 2];
 static uint8_t none[PAC_ROMS_SIZE]; /* each byte EDH: no instruction */
+static uint8_t places[65536];
 static pac_live live;
 static uint32_t code;
 static int passed, failed;
@@ -140,6 +141,13 @@ static void *live_step(void *unused)
     return unused;
 }
 
+static void *live_until(void *unused)
+{
+    pac_until told;
+    code = pac_live_until(&live, 50688, places, sizeof places, samples, PAC_FRAME_SAMPLES + 2, &told);
+    return unused;
+}
+
 static void *live_peek(void *unused)
 {
     code = pac_live_peek(&live, 0x4000, text, 256);
@@ -227,11 +235,11 @@ int main(void)
     } calls[] = {
         {"pac_init", init, 32}, {"pac_hold", hold, 32}, {"pac_exec", exec, 208}, {"pac_draw", draw, 32}, {"pac_peek", peek, 32},
         {"pac_reset", reset, 32}, {"pac_save", save, 32}, {"pac_load", load, 32}, {"pac_load of version 1", load_old, 32},
-        {"pac_live_open", live_open, 32}, {"pac_live_hold", live_hold, 32}, {"pac_live_exec", live_exec, 80}, {"pac_live_step", live_step, 32},
+        {"pac_live_open", live_open, 32}, {"pac_live_hold", live_hold, 32}, {"pac_live_exec", live_exec, 80}, {"pac_live_step", live_step, 32}, {"pac_live_until", live_until, 32},
         {"pac_live_peek", live_peek, 32}, {"pac_live_registers", live_registers, 32}, {"pac_live_draw", live_draw, 32},
         {"pac_live_save", live_save, 32}, {"pac_live_load", live_load, 32},
         {"pac_live_load of version 1", live_load_old, 32}, {"pac_live_give", live_give, 32}, {"pac_live_put", live_put, 32},
-        {"pac_live_put of no program", live_put_none, 32}, {"pac_live_reset", live_reset, 32}, {"pac_live_step at a stop", live_step, 32},
+        {"pac_live_put of no program", live_put_none, 32}, {"pac_live_reset", live_reset, 32}, {"pac_live_step at a stop", live_step, 32}, {"pac_live_until at a stop", live_until, 32},
         {"pac_live_exec at a stop", live_exec, 80}, {"pac_live_close", live_close, 32},
     };
     lay_old();

@@ -3,6 +3,8 @@
 #include "../c/content.h"
 #include "../c/machine.h"
 
+#include <stdbool.h>
+
 enum { REFUSED = 100 }; /* and a code of pacboard.h: the board refuses the call */
 
 static machine it;
@@ -55,11 +57,11 @@ uint64_t gdb_time(void)
 uint32_t gdb_until(uint64_t time, const uint8_t *places, bool *met)
 {
     int16_t samples[MACHINE_ROOM];
-    pac_ran ran = {0};
+    pac_until ran = {0};
     uint32_t code = PAC_DONE;
-    *met = false;
-    for (uint64_t now; code == PAC_DONE && ran.stop == PAC_GOES && !*met && (now = machine_time(&it)) < time;)
-        code = machine_until(&it, time - now < MACHINE_FRAME ? time : now + MACHINE_FRAME, places, samples, MACHINE_ROOM, &ran, met);
+    for (uint64_t now; code == PAC_DONE && ran.stop == PAC_GOES && ran.why != PAC_UNTIL_PLACE && (now = machine_time(&it)) < time;)
+        code = machine_until(&it, time - now < MACHINE_FRAME ? time : now + MACHINE_FRAME, places, samples, MACHINE_ROOM, &ran);
+    *met = ran.why == PAC_UNTIL_PLACE;
     return code == PAC_DONE ? ran.stop : REFUSED + code;
 }
 

@@ -57,6 +57,7 @@ BOARD_SIZE, ROMS_SIZE, STATE_SIZE, RGBA_SIZE = 67_756, 25_120, 67_756, 258_048  
 WIDTH, HEIGHT = 288, 224  # pixels
 FRAME_MICROSECONDS, FRAME_SAMPLES, SAMPLE_RATE, SWITCHES = 16_500, 1_584, 96_000, 0xC9
 STEP_SAMPLES, ALIGNED, CLOSED = 2, 16, 5  # room for a step, what the address of a live board's memory is divided by, and the code of a closed one
+SAMPLE_TICKS = 32  # T-states from one sample to the next
 UNTIL_TIME, UNTIL_PLACE, UNTIL_STOP, UNTIL_FULL = 1, 2, 3, 4  # why LiveBoard.until ended
 NAMES = """P1_UP P1_LEFT P1_RIGHT P1_DOWN RACK_TEST COIN1 COIN2 CREDIT
 P2_UP P2_LEFT P2_RIGHT P2_DOWN BOARD_TEST START1 START2 COCKTAIL""".split()
@@ -214,6 +215,7 @@ def library() -> ctypes.CDLL:
         "pac_live_hold": (written, ctypes.c_uint16, ctypes.c_uint16),
         "pac_live_exec": (written, ctypes.c_uint32, written, size, written),
         "pac_live_step": (written, written, size, written),
+        "pac_live_until": (written, ctypes.c_uint32, text, size, written, size, written),
         "pac_live_peek": (written, ctypes.c_uint16, written, size),
         "pac_live_registers": (written, written),
         "pac_live_draw": (written, written, size),
@@ -505,27 +507,23 @@ class LiveBoard(Calls):
         self.call("step", samples, STEP_SAMPLES, ctypes.byref(ran))
         return ran, given(samples, ran)
 
-    def until(self, ticks: SupportsIndex, places: Iterable[SupportsIndex] = ()) -> tuple[Until, array.array[int]]:
+    def until(self, ticks: SupportsIndex, places: Iterable[SupportsIndex] = (), room: SupportsIndex | None = None) -> tuple[Until, array.array[int]]:
         """Goes on for so many T-states, or, after a step at least, to one of some addresses, or to a stop: what was done, and the samples. `places`
-        are the addresses, or the bytes of `places_of`. It goes by single steps, which takes longer than a run."""
-        left = number("ticks", ticks, 32)
+        are the addresses, or the bytes of `places_of`. Where `room` is given, so many samples end it, too."""
+        left, rest = number("ticks", ticks, 32), None if room is None else number("room", room, 32)
         handed = bytes_of(places) if isinstance(places, (bytes, bytearray, memoryview)) else places_of(places)
-        if len(handed) not in (0, 1 << 16):
-            raise Refused(1)
-        found, ran, part, now, samples = array.array("h"), Until(), Ran(), Registers(), (ctypes.c_int16 * STEP_SAMPLES)()
-        handle, told, registers = ctypes.byref(self.handle), ctypes.byref(part), ctypes.byref(now)
+        found, before = array.array("h"), Until()
         with self.lock:
-            done(LIBRARY.pac_live_registers(handle, registers))
-            while ran.why == 0:
-                is_over = ran.ticks >= left
-                if not is_over:
-                    done(LIBRARY.pac_live_step(handle, samples, STEP_SAMPLES, told))
-                    done(LIBRARY.pac_live_registers(handle, registers))
-                    found += given(samples, part)
-                    ran.ticks, ran.samples, ran.pictures = ran.ticks + part.ticks, len(found), ran.pictures + part.pictures
-                ran.why = UNTIL_TIME if is_over else UNTIL_STOP if part.stop else UNTIL_PLACE if handed and handed[now.pc] else 0
-        ran.pc, ran.stop, ran.bytes, ran.vector = now.pc, part.stop, part.bytes, part.vector
-        return ran, found
+            while True:
+                count = min(left // SAMPLE_TICKS + 2, SAMPLE_RATE) if rest is None else rest
+                ran, samples = Until(), (ctypes.c_int16 * max(count, 1))()
+                done(LIBRARY.pac_live_until(ctypes.byref(self.handle), left, handed, len(handed), samples, count, ctypes.byref(ran)))
+                found, left = found + given(samples, ran), max(left - ran.ticks, 0)
+                for name in ("ticks", "samples", "pictures"):
+                    setattr(ran, name, getattr(ran, name) + getattr(before, name))
+                if ran.why != UNTIL_FULL or rest is not None:
+                    return ran, found
+                before = ran
 
     def registers(self) -> Registers:
         """The registers by their names."""

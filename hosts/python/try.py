@@ -135,7 +135,7 @@ def laid_out(name: str) -> list[tuple[str, int]]:
 
 def try_structs() -> None:
     """The structs, by the header."""
-    structs: dict[str, type[ctypes.Structure]] = {"pac_ran": pacboard.Ran, "pac_registers": pacboard.Registers, "pac_live": pacboard.Handle}
+    structs: dict[str, type[ctypes.Structure]] = {"pac_ran": pacboard.Ran, "pac_registers": pacboard.Registers, "pac_live": pacboard.Handle, "pac_until": pacboard.Until}
     for name, struct_of in structs.items():
         fields, at, is_so = laid_out(name), 0, True
         for field, size in fields:
@@ -191,7 +191,7 @@ def walked(name: str, frames: int, steps: int) -> tuple[bytes, list[tuple[int, b
 
 
 def try_stops() -> None:
-    """Goes to addresses, and to none: each stop where single steps meet it."""
+    """Goes to addresses, to none, and with little room: each stop where single steps meet it."""
     for name, frames in (("starfall", 150), ("sunset", 30)):
         begun, steps = walked(name, frames, STEPS)
         live, random_of, stops, wrong = pacboard.LiveBoard(roms_of(name)), random.Random(name), 0, 0
@@ -206,6 +206,13 @@ def try_stops() -> None:
         row(f"{stops} stops of {name}, {wrong} of which are wrong", stops > 5000 and not wrong)
         live.block = begun
         whole = live.until(50_688)
+        after, heard = but_asked(live.block), array.array("h")
+        live.block, ran = begun, pacboard.Until(why=pacboard.UNTIL_FULL)
+        left, calls = 50_688, 0
+        while ran.why == pacboard.UNTIL_FULL:
+            ran, samples = live.until(left, room=random_of.randrange(40))
+            heard, left, calls = heard + samples, max(left - ran.ticks, 0), calls + 1
+        row(f"a frame of {name} with little room", calls > 20 and (heard, but_asked(live.block)) == (whole[1], after) and len(heard) in (1584, 1585))
         board = pacboard.Board(roms_of(name))
         board.block = begun
         ran_of_block, samples = board.run(pacboard.FRAME_MICROSECONDS)
@@ -213,8 +220,8 @@ def try_stops() -> None:
 
 
 def try_cuts() -> None:
-    """Cuts frames by until, step and run: all of it at once leaves the same."""
-    live, board, random_of, heard, frames = pacboard.LiveBoard(roms_of("starfall")), board_of("starfall"), random.Random(1), array.array("h"), 10
+    """Cuts a second by until, step and run: a second at once leaves the same."""
+    live, board, random_of, heard, frames = pacboard.LiveBoard(roms_of("starfall")), board_of("starfall"), random.Random(1), array.array("h"), 60
     for at in range(1, frames + 1):
         end = at * 50_688
         while live.registers().time < end - 100:
@@ -236,9 +243,9 @@ def try_until() -> None:
     told = [(ran.why, ran.pc, ran.ticks) for ran, _ in (live.until(0, [0]), live.until(1), live.until(9), live.until(100, [0, 0xFFFF, 7]), live.until(100, [7]))]
     row("NOPs", told == [(1, 0, 0), (1, 1, 4), (1, 4, 12), (2, 7, 12), (1, 32, 100)])
     kept = live.block
-    for words in ((-1,), (1 << 32,), (10**400,), (1, [-1]), (1, [1 << 16])):
+    for words in ((-1,), (1 << 32,), (10**400,), (1, [-1]), (1, [1 << 16]), (1, [], -1), (1, [], 1 << 32)):
         row(f"until{repr(words)[:30]}: ValueError", fault_of(live.until, *words) == "ValueError" and live.block == kept)
-    for words in ((1.0,), ("1",), (None,), (float("nan"),), (1, ["1"]), (1, [1.5]), (1, None), (1, 7), (1, [[]])):
+    for words in ((1.0,), ("1",), (None,), (float("nan"),), (1, ["1"]), (1, [1.5]), (1, None), (1, 7), (1, [], "1"), (1, [[]])):
         row(f"until{repr(words)[:30]}: TypeError", fault_of(live.until, *words) == "TypeError" and live.block == kept)
     for size in (1, 255, 65_535, 65_537, 1 << 20):
         row(f"a set of {size} bytes", fault_of(live.until, 1, bytes(size)) == fault_of(live.until, 1, bytearray(size)) == "Refused" and live.block == kept)

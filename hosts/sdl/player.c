@@ -65,13 +65,13 @@ static bool is_at_address(void)
 {
     static uint8_t places[MACHINE_PLACES];
     int16_t samples[MACHINE_ROOM];
-    pac_ran ran = {0};
-    bool is_there = false;
+    pac_until ran = {0};
     if (words.to < 0)
         return false;
     places[words.to] = 1;
-    machine_until(&it, (uint64_t)(now + 1) * MACHINE_FRAME, places, samples, MACHINE_ROOM, &ran, &is_there);
-    return hear(samples, ran.samples), is_there;
+    if (machine_until(&it, (uint64_t)(now + 1) * MACHINE_FRAME, places, samples, MACHINE_ROOM, &ran) == PAC_DONE)
+        hear(samples, ran.samples);
+    return ran.why == PAC_UNTIL_PLACE;
 }
 
 /* Plays a frame with these inputs, and lets it be heard, silence after a stop too; false where there is no room for it, the board refuses it, or is at

@@ -1,28 +1,23 @@
 -- How long texts are: that of an instruction has 16 bytes at most.
-use Rattle.std.proofs.Common.{◌≡◌, ℕ, suc, ◌+◌, ◌/◌, ◌<◌, ◌≤◌, ℤ, Bool, true, false, nat_le, nat_lt, if◌then◌else◌}
-use Rattle.std.proofs.Common.{Option, None, List, [], ◌∷◌, length, get_or, not, ◌||◌, refl, arith, rules}
+use Rattle.std.proofs.Common.{◌≡◌, ℕ, suc, ◌+◌, ◌/◌, ◌<◌, ◌≤◌, ℤ, Bool, true, nat_le, nat_lt, ◌&&◌, Option, None, List, [], ◌∷◌, length}
+use Rattle.std.proofs.Common.{get_or, not, ◌||◌, refl, subst, arith, rules}
 use Rattle.std.specs.Prelude.{map, unwrap_or, max}
 use Rattle.std.specs.Option.{option_map_or}
 use Rattle.std.specs.List.{list_all}
 use Rattle.std.proofs.lemmas.List.{length-append}
-use Rattle.std.proofs.lemmas.Bool.{leb-true, ltb-true}
+use Rattle.std.proofs.lemmas.Bool.{leb-true, ltb-true, and_parts}
 use Rattle.std.proofs.lemmas.Int.{ints}
 use Rattle.pac_lemmas.proofs.Searches.{list_all-get_or}
 use Rattle.pac_table.specs.declared.patterns.Immediate.{Immediate}
-use Rattle.pac_table.specs.declared.operands.Mnemonic.{Mnemonic}
-use Rattle.pac_table.specs.declared.operands.Mnemonic.TheVariants as mnemonic
-use Rattle.pac_table.specs.declared.operands.Name.TheVariants as name
 use Rattle.pac_table.specs.declared.operands.Shape.{Shape}
-use Rattle.pac_table.specs.declared.operands.Shape.TheVariants as shape
-use Rattle.pac_table.specs.declared.operands.Operands.{Operands}
 use Rattle.pac_table.specs.declared.operands.Name.{Name}
 use Rattle.pac_table.specs.declared.operands.NumberKind.{NumberKind}
 use Rattle.pac_table.specs.declared.operands.NumberKind.TheVariants as kind
-use Rattle.pac_table.specs.declared.operands.Shape.TheVariants.{Absent, Named, AlternateAf, AtName, FirstField, SecondField}
-use Rattle.pac_table.specs.declared.operands.Shape.TheVariants.{Indexed, Number, AtNumber}
+use Rattle.pac_table.specs.declared.operands.Shape.TheVariants.{Absent, Named, AlternateAf, AtName, FirstField, SecondField, Indexed}
+use Rattle.pac_table.specs.declared.operands.Shape.TheVariants.{Number, AtNumber}
 use Rattle.pac_table.specs.declared.table.Row.{Row}
-use Rattle.pac_table_names.specs.Names.{text_of_name, names_in, has_accumulator, present_shape, listed_shapes}
-use Rattle.pac_table.specs.Mnemonics.{is_family, names_of, operation_name}
+use Rattle.pac_table_names.specs.Names.{text_of_name, names_in, written_operands}
+use Rattle.pac_table.specs.Mnemonics.{operation_name}
 use Rattle.pac_table.specs.Patterns.{lists, IsDisplacement, IsSignedByte}
 use Rattle.pac_table.specs.Table.{table}
 use Rattle.pac_table.specs.Instructions.{Instruction, IsInstruction, row_at, operands_of, pattern_of}
@@ -112,122 +107,35 @@ length-operand-le : (at : ℕ) (i : Instruction) (some : Shape) → IsSignedByte
 length-operand-le at i some is =
     grind (arith, entry-le, length-append, length-displacement-le, length-in-parentheses, length-name, length-number-le)
 
--- ---- operands one after another
-
--- the bytes of operands, with a mark before each
-abbrev room : List (List ℕ) → ℕ
-room [] = 0
-room (operand ∷ operands) = length operand + 1 + room operands
-
-length-marked : (mark : ℕ) (operands : List (List ℕ)) → length (marked_operands mark operands) ≡ room operands
-length-marked mark [] = refl
-length-marked mark (operand ∷ operands) =
-    omega (arith, length-append operand (marked_operands comma_code operands), length-marked comma_code operands)
-
-room-of-text : (operand : List ℕ) (most : ℕ) → length operand ≤ most → room (operand ∷ []) ≤ most + 1
-room-of-text operand most within = omega (arith, within)
-
-room-present : (at : ℕ) (i : Instruction) (some : Shape) → IsSignedByte i.disp →
-    room (map (operand_text at i) (present_shape some)) ≤ longest_operand some + 1
-room-present at i shape.Absent is = omega arith
-room-present at i some is = room-of-text (operand_text at i some) _ (length-operand-le at i some is)
-
-room-listed : (at : ℕ) (i : Instruction) (first second : Shape) → IsSignedByte i.disp →
-    room (map (operand_text at i) (listed_shapes first second)) ≤
-    (longest_operand first + 1) + (longest_operand second + 1)
-room-listed at i shape.Absent second is = omega arith
-room-listed at i first second is =
-    let before = length-operand-le at i first is in
-    omega (arith, before, room-present at i second is)
-
--- the room of the A of ADD, ADC and SBC
-abbrev accumulator_room : Mnemonic → ℕ
-accumulator_room mnemonic.Alu = 2
-accumulator_room _ = 0
-
-has-room : (some : Mnemonic) (value : ℕ) → has_accumulator some value ≡ true → accumulator_room some ≡ 2
-has-room some value is = search rules
-
-room-written : (at : ℕ) (i : Instruction) (form : Operands) (b : Bool) → IsSignedByte i.disp → has_accumulator form.mnemonic i.p ≡ b →
-    room (map (operand_text at i) (if b then listed_shapes (shape.Named name.A) form.first else listed_shapes form.first form.second)) ≤
-    accumulator_room form.mnemonic +
-    (longest_operand form.first + 1) + (longest_operand form.second + 1)
-room-written at i form true is has =
-    omega (arith, room-listed at i (shape.Named name.A) form.first is, has-room form.mnemonic i.p has)
-room-written at i form false is has = omega (arith, room-listed at i form.first form.second is)
-
 -- ---- whole texts
 
--- the most bytes that the text of a row's instruction has
-abbrev longest_row : Row → ℕ
-longest_row row =
-    longest (λ (name : List ℕ). length name) (names_of row.operands.mnemonic) + accumulator_room row.operands.mnemonic +
-    (longest_operand row.operands.first + 1) + (longest_operand row.operands.second + 1)
+-- the most bytes of operands, with a mark before each
+abbrev room : List Shape → ℕ
+room [] = 0
+room (shape ∷ shapes) = longest_operand shape + 1 + room shapes
 
-abbrev row_fits : Row → Bool
-row_fits row = nat_le (longest_row row) 16
-
-rows-fit : list_all row_fits table ≡ true
-unfolding table
-rows-fit = refl
+length-marked-le : (at : ℕ) (i : Instruction) → IsSignedByte i.disp → (mark : ℕ) (shapes : List Shape)
+    → length (marked_operands mark (map (operand_text at i) shapes)) ≤ room shapes
+length-marked-le at i is mark [] = omega arith
+length-marked-le at i is mark (shape ∷ shapes) =
+    simp length-append (omega (arith, length-operand-le at i shape is, length-marked-le at i is comma_code shapes))
 
 -- d and e are signed bytes; where a row has neither, 0
 signed-displacement : (some : Immediate) (d : ℤ) → IsDisplacement some d → IsSignedByte d
 signed-displacement some d is = search rules
 
-pub is-signed : (i : Instruction) → IsInstruction i → IsSignedByte i.disp
-is-signed i is = signed-displacement (pattern_of i).immediate i.disp is.disp
-
-abbrev size_of_name : List ℕ → ℕ
-size_of_name name = length name
-
-length-operation : (name : Option (List ℕ)) → length (unwrap_or name []) ≡ option_map_or size_of_name name 0
-length-operation name = search rules
-
-operation-le : (some : Mnemonic) (value : ℕ) →
-    option_map_or size_of_name (operation_name some value) 0 ≤ longest size_of_name (names_of some)
-operation-le some value = entry-le size_of_name (names_of some) (if is_family some then value else 0)
-
-room-operands : (at : ℕ) (i : Instruction) → IsSignedByte i.disp →
-    room (operand_texts at i) ≤
-    accumulator_room (operands_of i).mnemonic +
-    (longest_operand (operands_of i).first + 1) + (longest_operand (operands_of i).second + 1)
-room-operands at i is = room-written at i (operands_of i) _ is refl
-
-text-le : (at : ℕ) (i : Instruction) → IsInstruction i → length (instruction_text at i) ≤ longest_row (row_at i.row)
-unfolding instruction_text
-text-le at i is =
-    let name = operation_name (operands_of i).mnemonic i.p in
-    omega (
-      arith,
-      length-append (unwrap_or name []) (marked_operands blank_code (operand_texts at i)),
-      length-marked blank_code (operand_texts at i),
-      length-operation name,
-      operation-le (operands_of i).mnemonic i.p,
-      room-operands at i (is-signed i is),
-    )
-
--- an instruction's text has 16 bytes at most
-pub text-fits : (at : ℕ) (i : Instruction) → IsInstruction i → length (instruction_text at i) ≤ 16
-text-fits at i is =
-    omega (arith, text-le at i is, leb-true (longest_row (row_at i.row)) 16 (row-passes row_fits rows-fit i.row is.row))
-
--- ---- texts that aren't empty
-
 abbrev first_eight : List ℕ
 first_eight = 0 ∷ 1 ∷ 2 ∷ 3 ∷ 4 ∷ 5 ∷ 6 ∷ 7 ∷ []
 
--- whether an operation has a name, where its first field may hold a value
-abbrev is_named : Row → ℕ → Bool
-is_named row value =
-    not (lists row.pattern.first value) || nat_lt 0 (length (unwrap_or (operation_name row.operands.mnemonic value) []))
+-- whether an operation has a name, and its text 16 bytes at most, where its first field may hold a value
+abbrev is_shown : Row → ℕ → Bool
+is_shown row value =
+    not (lists row.pattern.first value) || (nat_lt 0 (length (unwrap_or (operation_name row.operands.mnemonic value) []))
+    && nat_le (length (unwrap_or (operation_name row.operands.mnemonic value) []) + room (written_operands row.operands value)) 16)
 
-abbrev row_is_named : Row → Bool
-row_is_named row = list_all (is_named row) first_eight
-
-rows-are-named : list_all row_is_named table ≡ true
+rows-are-shown : list_all (λ row. list_all (is_shown row) first_eight) table ≡ true
 unfolding table
-rows-are-named = refl
+rows-are-shown = refl
 
 eight-at : (k : ℕ) → k < 8 → get_or first_eight k 0 ≡ k
 eight-at k below = search rules
@@ -239,18 +147,29 @@ field-below i is = search rules
 second-of-or : (a b : Bool) → a ≡ true → (not a || b) ≡ true → b ≡ true
 second-of-or a b is either = search rules
 
-pub operation-named : (i : Instruction) → IsInstruction i → 0 < length (operation_text i)
-operation-named i is = grind (arith, eight-at, field-below, list_all-get_or, ltb-true, row-passes, rows-are-named, second-of-or)
+named-and-fits : (i : Instruction) → IsInstruction i →
+    (0 < length (operation_text i)) × (length (operation_text i) + room (written_operands (operands_of i) i.p) ≤ 16)
+named-and-fits i is =
+    let all = row-passes (λ row. list_all (is_shown row) first_eight) rows-are-shown i.row is.row in
+    let here = list_all-get_or (is_shown (row_at i.row)) first_eight i.p 0 all (field-below i is) in
+    let shown = and_parts _ _ (second-of-or _ _ is.first (subst (λ p. is_shown (row_at i.row) p ≡ true) (eight-at i.p (field-below i is)) here)) in
+    (ltb-true 0 _ shown.0, leb-true _ 16 shown.1)
 
--- an instruction's text has a byte at least
-pub text-shown : (at : ℕ) (i : Instruction) → IsInstruction i → 0 < length (instruction_text at i)
-unfolding instruction_text
-text-shown at i is =
-    omega (arith, length-append (operation_text i) (marked_operands blank_code (operand_texts at i)), operation-named i is)
+pub operation-named : (i : Instruction) → IsInstruction i → 0 < length (operation_text i)
+operation-named i is = (named-and-fits i is).0
 
 -- after the name of the operation there is room for the operands
 pub operands-fit : (at : ℕ) (i : Instruction) (text : List ℕ) → IsInstruction i → length text ≡ length (operation_text i) →
     length text + length (marked_operands blank_code (operand_texts at i)) ≤ 16
-unfolding instruction_text
 operands-fit at i text is same =
-    omega (arith, length-append (operation_text i) (marked_operands blank_code (operand_texts at i)), text-fits at i is, same)
+    let signed = signed-displacement (pattern_of i).immediate i.disp is.disp in
+    omega (arith, length-marked-le at i signed blank_code (written_operands (operands_of i) i.p), (named-and-fits i is).1, same)
+
+-- an instruction's text has 16 bytes at most, and one at least
+pub text-fits : (at : ℕ) (i : Instruction) → IsInstruction i → length (instruction_text at i) ≤ 16
+unfolding instruction_text
+text-fits at i is = simp length-append (operands-fit at i (operation_text i) is refl)
+
+pub text-shown : (at : ℕ) (i : Instruction) → IsInstruction i → 0 < length (instruction_text at i)
+unfolding instruction_text
+text-shown at i is = simp length-append (omega (arith, operation-named i is))

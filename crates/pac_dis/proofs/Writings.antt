@@ -16,7 +16,7 @@ use Rattle.pac_table.specs.Table.{table}
 use Rattle.pac_table.specs.Instructions.{Instruction, IsInstruction, operands_of, pattern_of}
 use Rattle.pac_table.proofs.TableRules.{row-passes}
 use Rattle.pac_table.specs.declared.operands.Operands.{Operands}
-use Rattle.pac_dis.specs.Ranges.{IsShown, ShowsNumbers, ShowsEach}
+use Rattle.pac_dis.specs.Ranges.{ShowsNumbers, ShowsEach}
 
 -- ---- numbers in range
 
@@ -38,10 +38,6 @@ row_has_range row =
 rows-have-range : list_all row_has_range table ≡ true
 unfolding table
 rows-have-range = refl
-
-is-shown : (i : Instruction) (some : Immediate) (number : NumberKind) → i.word < word_limit some → in_range some number ≡ true →
-    IsShown i number
-is-shown i some number below is = search rules
 
 shows-numbers : (i : Instruction) (some : Immediate) (writing : Shape) → i.word < word_limit some → has_range some writing ≡ true →
     ShowsNumbers i writing

@@ -21,3 +21,4 @@ pub mod LiveRun
 pub mod LiveSteps
 pub mod LiveTaken
 pub mod LiveBoards
+pub mod UntilEnds

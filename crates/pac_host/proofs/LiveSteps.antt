@@ -25,7 +25,7 @@ outputs-walked : (now : Moment BoardView) (next : Next BoardView) → outputs_in
 outputs-walked now (Goes after outputs kind) = refl
 outputs-walked now (Ends stop) = refl
 
-at-most-one : (sample : Option ℤ) → samples_due sample ≤ 1
+pub at-most-one : (sample : Option ℤ) → samples_due sample ≤ 1
 at-most-one None = omega arith
 at-most-one (Some sample) = omega arith
 

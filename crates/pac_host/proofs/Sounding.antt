@@ -124,7 +124,7 @@ not-refused : {A : Type 0} (first : Output) (rest taken : List Output) (asked ne
     → asked.taken ≡ sound_count taken → sound_count (taken ++ first ∷ rest) ≤ length asked.samples.now
     → sounding_refused asked first new → A
 not-refused (Sound sample) rest taken asked new count room full =
-    let all = sounds-append taken (Sound sample ∷ rest) in absurd (omega (arith, all, count, room, full))
+    let all = sounds-append taken (Sound sample ∷ rest) in let none = full.0 in absurd (omega (arith, all, count, room, none))
 not-refused (Show image) rest taken asked new count room full = absurd full
 
 pub none-refused : {A : Type 0} (outputs left : List Output) (old new : Sounds) → old.taken ≡ 0 → old.pictures ≡ 0

@@ -9,6 +9,8 @@ pub mod LiveHanded
 pub mod LiveTime
 pub mod LiveStep
 pub mod LiveSteps
+pub mod LiveUntil
+pub mod LiveUntils
 pub mod LiveLook
 pub mod LiveFiles
 pub mod LiveLaws

@@ -24,9 +24,9 @@ abbrev pub sounding_took : Sounds → Output → Sounds → Type 0
 sounding_took old (Sound sample) new = WritesSample old sample new
 sounding_took old (Show image) new = CountsPicture old new
 
--- only a sample is refused, where the buffer is full
+-- only a sample is refused, where the buffer is full, and nothing is changed
 abbrev pub sounding_refused : Sounds → Output → Sounds → Type 0
-sounding_refused old (Sound sample) new = length old.samples.now ≤ old.taken
+sounding_refused old (Sound sample) new = (length old.samples.now ≤ old.taken) × (new ≡ old)
 sounding_refused old (Show image) new = ⊥
 
 -- what is left of the buffer

@@ -56,7 +56,7 @@ fn parts(roms: &[u8]) -> (&[u8], Raw<'_>)
 }
 
 /// The N bytes from a place on.
-fn chunk<const N: usize>(roms: &[u8], at: usize) -> &[u8; N]
+pub(crate) fn chunk<const N: usize>(roms: &[u8], at: usize) -> &[u8; N]
     requires { at + N ≤ length roms.now }
     ensures { result.now ≡ bytes_at_place at N roms.now }
 {

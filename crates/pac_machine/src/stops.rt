@@ -42,7 +42,8 @@ impl<'a> Stops<'a> {
     }
 
     /// The time from which on steps look where they begin: at once where there is a map, and else never before the time at which they end.
-    #[inline(always)]
+    /// A call, so that a loop of steps compares with this time alone: where the compiler knows how it's made, each step looks at both parts.
+    #[inline(never)]
     pub(crate) fn first_look(&self, end: u64) -> u64
         ensures { result ≡ first_look self.now end }
     {

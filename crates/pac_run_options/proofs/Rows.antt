@@ -5,9 +5,9 @@ use Rattle.std.specs.Option.{option_map_or}
 use Rattle.std.specs.Borrow.{Bor}
 use Rattle.std.specs.Box.{box_value}
 use Rattle.clap.specs.Facts.{explicit_source}
-use Rattle.clap.specs.Matches.{first_value, found_of, matched_of}
+use Rattle.clap.specs.Matches.{found_of, matched_of}
 use Rattle.clap.specs.Takes.{is_given}
-use Rattle.clap.specs.Walk.{Row, Text, first_of, rows_of}
+use Rattle.clap.specs.Walk.{Row, Text, rows_of}
 use Rattle.clap.specs.Simple.{subcommand_rows}
 use Rattle.clap.specs.declared.parser.matches.ArgMatches.{ArgMatches}
 use Rattle.clap.specs.declared.parser.matches.ArgMatches.TheViews.{out-SubCommand}
@@ -17,20 +17,6 @@ use Rattle.clap.specs.declared.parser.matches.SubCommand.{SubCommand}
 use Rattle.clap.specs.declared.parser.matches.ValueSource.{ValueSource}
 use Rattle.clap.specs.declared.parser.matches.ValueSource.TheVariants.{CommandLine, DefaultValue}
 use Rattle.clap.proofs.TakesLemmas.{present_row}
-use Rattle.clap.proofs.WalkLemmas.{first_value-rows}
-
-pub some_first : (f : Found) (id : Text) (r : Option (Bor Text)) (x : Bor Text) → r ≡ Some x
-    → option_map (λ s. s.now) r ≡ first_value f id
-    → first_of id (rows_of f) ≡ Some x.now
-some_first f id r x is h = sym (first_value-rows f id) ∙ (sym h ∙ ap (option_map (λ (s : Bor Text). s.now)) is)
-
-pub none_first : (f : Found) (id : Text) (r : Option (Bor Text)) → r ≡ None → option_map (λ s. s.now) r ≡ first_value f id
-    → first_of id (rows_of f) ≡ None
-none_first f id r is h = sym (first_value-rows f id) ∙ (sym h ∙ ap (option_map (λ (s : Bor Text). s.now)) is)
-
-pub same_first : (f : Found) (id : Text) (r : Option (Bor Text)) → option_map (λ s. s.now) r ≡ first_value f id
-    → first_of id (rows_of f) ≡ option_map (λ s. s.now) r
-same_first f id r h = sym (first_value-rows f id) ∙ sym h
 
 -- whether the words give an option, by where its values came from and whether there are any
 abbrev pub given_by : Option ValueSource → Bool → Bool

@@ -1,8 +1,8 @@
 //! From the words of a command line to what they ask for.
 
-ghost use Rattle.std.specs.Prelude.{◌≡◌, IfOk, Some, map, option_and_then, option_map};
+ghost use Rattle.std.specs.Prelude.{◌≡◌, IfOk, Some, codes, map, option_and_then, option_map};
 ghost use Rattle.clap.specs.Takes.{is_given};
-ghost use Rattle.clap.specs.Words.{FailsBy, found_of, rows_of, subcommand_rows_of};
+ghost use Rattle.clap.specs.Words.{FailsBy, first_of, found_of, one_of, rows_of, subcommand_rows_of};
 ghost use Rattle.pac_run_options.specs.CommandLine as line;
 ghost use Rattle.pac_run_options.specs.CommandLineProofs as command_line_proofs;
 
@@ -57,6 +57,22 @@ fn is_given(values: &ArgMatches<'_>, id: &str) -> bool
     }
 }
 
+/// The first text of an argument, where the words give one.
+fn text<'a>(values: &ArgMatches<'a>, id: &str) -> Option<&'a str>
+    ensures { option_map (λ one. one.now) result
+        ≡ first_of id.now (rows_of (found_of values.now)) }
+{
+    values.get_str(id)
+}
+
+/// The DIP switches, where their text is a number that a byte has.
+fn dip_switches(values: &ArgMatches<'_>) -> Option<u8>
+    ensures { result
+        ≡ option_and_then line.byte_of_text (one_of (codes "dip") (rows_of (found_of values.now))) }
+{
+    values.get_one::<u8>("dip")
+}
+
 /// What the matches of a command line ask for.
 fn request<'a>(matches: &ArgMatches<'a>) -> Option<Request<'a>>
     ensures { option_map command_line_proofs.told_request result ≡ option_and_then line.asked_command (subcommand_rows_of matches.now) }
@@ -66,7 +82,7 @@ fn request<'a>(matches: &ArgMatches<'a>) -> Option<Request<'a>>
         "asm" => asm_files(values).map(Request::Asm),
         "run" => play_files(values).map(Request::Run),
         "debug" => debug_files(values).map(Request::Debug),
-        "dis" => values.get_str("file").map(Request::Dis),
+        "dis" => text(values, "file").map(Request::Dis),
         _ => None,
     }
 }
@@ -75,15 +91,9 @@ fn request<'a>(matches: &ArgMatches<'a>) -> Option<Request<'a>>
 fn asm_files<'a>(values: &ArgMatches<'a>) -> Option<AsmFiles<'a>>
     ensures { option_map command_line_proofs.told_asm result ≡ line.asked_asm (rows_of (found_of values.now)) }
 {
-    let Some(source) = values.get_str("source") else {
-        return None;
-    };
-    let Some(rom) = values.get_str("rom") else {
-        return None;
-    };
-    let Some(listing) = values.get_str("listing") else {
-        return None;
-    };
+    let source = text(values, "source")?;
+    let rom = text(values, "rom")?;
+    let listing = text(values, "listing")?;
     Some(AsmFiles {
         source,
         rom,
@@ -95,13 +105,11 @@ fn asm_files<'a>(values: &ArgMatches<'a>) -> Option<AsmFiles<'a>>
 fn play_files<'a>(values: &ArgMatches<'a>) -> Option<PlayFiles<'a>>
     ensures { option_map command_line_proofs.told_play result ≡ line.asked_play (rows_of (found_of values.now)) }
 {
-    let Some(run) = run_files(values) else {
-        return None;
-    };
+    let run = run_files(values)?;
     Some(PlayFiles {
         run,
-        load: values.get_str("load"),
-        save: values.get_str("save"),
+        load: text(values, "load"),
+        save: text(values, "save"),
     })
 }
 
@@ -109,31 +117,19 @@ fn play_files<'a>(values: &ArgMatches<'a>) -> Option<PlayFiles<'a>>
 fn run_files<'a>(values: &ArgMatches<'a>) -> Option<RunFiles<'a>>
     ensures { option_map command_line_proofs.told_run result ≡ line.asked_run (rows_of (found_of values.now)) }
 {
-    let Some(set) = values.get_str("set") else {
-        return None;
-    };
-    let Some(script) = values.get_str("script") else {
-        return None;
-    };
-    let Some(frames) = values.get_str("frames") else {
-        return None;
-    };
-    let Some(wave) = values.get_str("wave") else {
-        return None;
-    };
-    let Some(listing) = values.get_str("listing") else {
-        return None;
-    };
-    let Some(dip) = values.get_one::<u8>("dip") else {
-        return None;
-    };
+    let set = text(values, "set")?;
+    let script = text(values, "script")?;
+    let frames = text(values, "frames")?;
+    let wave = text(values, "wave")?;
+    let listing = text(values, "listing")?;
+    let dip = dip_switches(values)?;
     Some(RunFiles {
         set,
         script,
         frames,
         wave,
         listing,
-        source: values.get_str("source"),
+        source: text(values, "source"),
         whole: is_given(values, "whole"),
         dip,
     })
@@ -143,11 +139,7 @@ fn run_files<'a>(values: &ArgMatches<'a>) -> Option<RunFiles<'a>>
 fn debug_files<'a>(values: &ArgMatches<'a>) -> Option<DebugFiles<'a>>
     ensures { option_map command_line_proofs.told_debug result ≡ line.asked_debug (rows_of (found_of values.now)) }
 {
-    let Some(run) = run_files(values) else {
-        return None;
-    };
-    let Some(commands) = values.get_str("commands") else {
-        return None;
-    };
+    let run = run_files(values)?;
+    let commands = text(values, "commands")?;
     Some(DebugFiles { run, commands })
 }

@@ -1,11 +1,7 @@
-use Rattle.std.proofs.Common.{arith, ℕ}
+use Rattle.std.proofs.Common.{arith}
 use Rattle.pac_table.proofs.Lengths.{length-code}
-use Rattle.pac_table.specs.Instructions.{Instruction}
 use Rattle.pac_dis.proofs.Fronts.{begins-within, begins-first_four, first_four-begins, front-found, front-cut, front-none}
 use Rattle.pac_dis.proofs.front.front.Goals as goal
-
-abbrev instruction_in : Instruction × ℕ → Instruction
-instruction_in found = found.0
 
 pub returns-in_err-instr-clause-exact : goal.returns-in_err-instr-clause-exact
 returns-in_err-instr-clause-exact c = grind (arith, front-none)

@@ -1,4 +1,4 @@
-use Rattle.std.proofs.Common.{◌≡◌, ◌∙◌, Option, Some, None, ap, codes, option_map, refl}
+use Rattle.std.proofs.Common.{◌≡◌, ◌∙◌, Option, Some, None, ap, option_map, refl}
 use Rattle.std.specs.Borrow.{Bor}
 use Rattle.std.specs.Option.{IsSomeAnd, MatchOption}
 use Rattle.clap.specs.Words.{Text, found_of, rows_of}
@@ -6,7 +6,7 @@ use Rattle.clap.specs.declared.parser.matches.ArgMatches.TheViews.{out-ArgMatche
 use Rattle.pac_run_options.specs.CommandLine as line
 use Rattle.pac_run_options.specs.declared.request.Request.{Request}
 use Rattle.pac_run_options.specs.declared.request.Request.TheVariants.{Dis}
-use Rattle.pac_run_options.proofs.Rows.{entered_rows, same_first}
+use Rattle.pac_run_options.proofs.Rows.{entered_rows}
 use Rattle.pac_run_options.proofs.reading.request.Goals as goal
 use Rattle.pac_run_options.specs.CommandLineProofs as command_line_proofs
 
@@ -24,4 +24,4 @@ returns-in-dis c =
     let here = entered_rows (out-ArgMatches c.args.matches.now).subcommand c.in_ok-name.name c.in_ok-name.values
     c.in_ok-name.ensures.name c.in_ok-name.ensures.rows
     ∙ ap (λ (n : Text). Some (n, rows_of f)) c.in-dis.is in
-    rw (here, same_first f (codes "file") _ c.get_str.ensures) (told_file _ _ c.map-in-dis.ensures.cases)
+    rw (here, ← c.text.ensures) (told_file _ _ c.map-in-dis.ensures.cases)

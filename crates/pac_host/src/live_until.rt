@@ -1,0 +1,223 @@
+//! A live board that goes on until its time is over, or an address, a stop or a full buffer ends it.
+
+ghost use Rattle.std.specs.Prelude.{◌≡◌, ◌≤◌, ◌+◌, ◌^◌, ◌&&◌, []};
+ghost use Rattle.pac_board.specs.State.{due_outputs, latest, latest_end};
+ghost use Rattle.pac_board.specs.Stops.{is_stop};
+ghost use Rattle.pac_host.specs.Codes as codes;
+ghost use Rattle.pac_host.specs.Live as live_specs;
+ghost use Rattle.pac_host.specs.LiveUntil as live_until;
+ghost use Rattle.pac_host.specs.LiveUntils.{OpensSet, HasLimit, WalksOn, IsGone};
+
+use crate::codes::HostFault;
+use crate::live::PacLive;
+use crate::live_calls::check_open;
+use crate::ran::{PacRan, told};
+use crate::roms::chunk;
+use crate::sounds::Sounds;
+use pac_board::{Board, LATEST, Stop, Stops, Trail};
+use std::mem::forget;
+
+/// Why a call ended.
+#[derive(Clone, Copy)]
+pub enum Ended {
+    /// The time is over.
+    TimeOver,
+    /// The board is before an address of the set.
+    AtPlace,
+    /// The board can't go on.
+    AtStop,
+    /// The buffer has no room for the next sample.
+    BufferFull,
+}
+
+/// What a call of `pac_live_until` did.
+#[repr(C)]
+#[derive(Clone, Copy)]
+pub struct PacUntil {
+    /// T-states that went by.
+    pub ticks: u64,
+    /// Samples that were given, at the head of the buffer.
+    pub samples: u32,
+    /// Vertical blanks that came: pictures that were finished.
+    pub pictures: u32,
+    /// Why it ended.
+    pub why: u32,
+    /// Why the board stopped; 0 where it didn't, and then `bytes` and `vector` are 0.
+    pub stop: u32,
+    /// Where the board is.
+    pub pc: u16,
+    /// The bytes from there on at a stop.
+    pub bytes: [u8; 4],
+    /// The interrupt vector where that is the reason of a stop, and else 0.
+    pub vector: u8,
+    /// 0.
+    pub zero: u8,
+}
+
+/// The number of what ended a call.
+fn number(ended: Ended) -> u32
+    ensures { result ≡ codes.ended_number ended }
+{
+    match ended {
+        Ended::TimeOver => 1,
+        Ended::AtPlace => 2,
+        Ended::AtStop => 3,
+        Ended::BufferFull => 4,
+    }
+}
+
+/// What is told of a run that ended so, with the board at an address.
+fn until_told(ran: &PacRan, ended: Ended, pc: u16) -> PacUntil
+    ensures { result ≡ codes.until_of ran.now ended pc }
+{
+    PacUntil {
+        ticks: ran.ticks,
+        samples: ran.samples,
+        pictures: ran.pictures,
+        why: number(ended),
+        stop: ran.stop,
+        pc,
+        bytes: ran.bytes,
+        vector: ran.vector,
+        zero: ran.zero,
+    }
+}
+
+/// The addresses of a set that a host hands in.
+fn stops_of(places: &[u8]) -> Result<Stops<'_>, HostFault>
+    ensures { OpensSet places.now result }
+{
+    if places.is_empty() {
+        return Ok(Stops::none());
+    }
+    if places.len() != 65_536 {
+        return Err(HostFault::WrongLength);
+    }
+    Ok(Stops::at(chunk(places, 0)))
+}
+
+/// The time at which so many T-states are over from now.
+fn limit_after(time: u64, ticks: u32) -> Result<u64, HostFault>
+    requires { time ≤ latest_end }
+    ensures { HasLimit time ticks result }
+{
+    let limit = time + u64::from(ticks);
+    if limit > LATEST {
+        return Err(HostFault::TooLong);
+    }
+    Ok(limit)
+}
+
+/// Goes on with a board that has nothing due.
+fn walk_on(
+    board: &mut Board,
+    limit: u64,
+    stops: &Stops<'_>,
+    sounds: &mut Sounds<'_>,
+) -> (Ended, Option<Stop>)
+    requires limit { limit ≤ latest }
+    requires nothing { due_outputs board.old ≡ [] }
+    ensures { WalksOn stops.now limit board.old sounds.old result.0 result.1 board.new sounds.new }
+{
+    let begun = board.time();
+    let mut nobody = Trail::silent();
+    let went = board.go(limit, stops, &mut nobody, sounds);
+    forget(nobody);
+    match went {
+        Err(_) => (Ended::BufferFull, None),
+        Ok(Some(stop)) => (Ended::AtStop, Some(stop)),
+        Ok(None) => {
+            if board.time() <= begun {
+                return (Ended::TimeOver, None);
+            }
+            if stops.has(board.regs().pc) {
+                return (Ended::AtPlace, None);
+            }
+            (Ended::TimeOver, None)
+        }
+    }
+}
+
+/// Whether a call ends before its first step: something was due, and the board is where steps are to stop.
+fn ends_at_once(board: &Board, is_due: bool, stops: &Stops<'_>) -> bool
+    ensures { result ≡ (is_due && is_stop stops.now board.now.state.now.regs.pc) }
+{
+    is_due && stops.has(board.regs().pc)
+}
+
+/// Goes on with a board: what is due is given first.
+fn go_on(
+    board: &mut Board,
+    limit: u64,
+    stops: &Stops<'_>,
+    sounds: &mut Sounds<'_>,
+) -> (Ended, Option<Stop>)
+    requires limit { limit ≤ latest }
+    requires later { board.old.state.now.time ≤ limit }
+    requires taken { sounds.old.taken ≡ 0 }
+    requires pictures { sounds.old.pictures ≡ 0 }
+    ensures { IsGone stops.now limit board.old sounds.old result.0 result.1 board.new sounds.new }
+{
+    // (its bound, that of a u64, is what no steps leave)
+    board.made();
+    let is_due = board.fields().due.is_some();
+    if board.offer(sounds).is_err() {
+        return (Ended::BufferFull, None);
+    }
+    if ends_at_once(board, is_due, stops) {
+        return (Ended::AtPlace, None);
+    }
+    walk_on(board, limit, stops, sounds)
+}
+
+/// Goes on with a board, and tells of it.
+fn go_told(board: &mut Board, limit: u64, stops: &Stops<'_>, samples: &mut [i16]) -> PacUntil
+    requires limit { limit ≤ latest }
+    requires later { board.old.state.now.time ≤ limit }
+    requires soon { limit ≤ board.old.state.now.time + 2 ^ 32 }
+    ensures { live_until.IsGoneOn (is_stop stops.now) limit board.old samples.old board.new samples.new result }
+{
+    let begun = board.time();
+    let mut sounds = Sounds {
+        samples,
+        taken: 0,
+        pictures: 0,
+    };
+    let (ended, stop) = go_on(board, limit, stops, &mut sounds);
+    let ticks = board.time().saturating_sub(begun);
+    let ran = told(ticks, sounds.taken as u32, sounds.pictures, stop);
+    until_told(&ran, ended, board.regs().pc)
+}
+
+/// Goes on with a board for so many T-states, until an address of a set, a stop or a full buffer.
+fn until_board(
+    board: &mut Board,
+    ticks: u32,
+    places: &[u8],
+    samples: &mut [i16],
+    ran: &mut PacUntil,
+) -> Result<(), HostFault>
+    ensures { live_until.Going places.now ticks samples.old samples.new ran.old ran.new
+        result board.old board.new }
+{
+    let stops = stops_of(places)?;
+    let limit = limit_after(board.time(), ticks)?;
+    *ran = go_told(board, limit, &stops, samples);
+    Ok(())
+}
+
+/// Goes on with a live board for so many T-states, until an address of a set, a stop or a full buffer.
+pub(crate) fn until(
+    live: &mut PacLive,
+    ticks: u32,
+    places: &[u8],
+    samples: &mut [i16],
+    ran: &mut PacUntil,
+) -> Result<(), HostFault>
+    ensures { live_specs.Lives ((samples.new ≡ samples.old) × (ran.new ≡ ran.old))
+        (live_until.Going places.now ticks samples.old samples.new ran.old ran.new)
+        result live.old live.new }
+{
+    check_open(live)?;
+    until_board(live.board(), ticks, places, samples, ran)
+}
