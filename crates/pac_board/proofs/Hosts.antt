@@ -32,11 +32,12 @@ use Rattle.pac_board.specs.Calls.{next_of}
 use Rattle.pac_board.specs.Calls.{outputs_given}
 use Rattle.pac_board.specs.Calls.{outputs_in, board_after_step}
 use Rattle.pac_board.specs.Calls.{with_due}
-use Rattle.pac_board.specs.Hosts.{Call, Exec, StepOnce, Advance, Offer, GoTo, GoOn, CountAsked, Reset, InputSet, InputClear, Snapshot}
+use Rattle.pac_board.specs.Hosts.{Call, Exec, StepOnce, Advance, Offer, GoTo, GoOn, GoWatched, CountAsked, Reset, InputSet, InputClear, Snapshot}
 use Rattle.pac_board.specs.Hosts.{Restore, PutFields, PutRoms, HostedBoard}
-use Rattle.pac_board.specs.Hosts.{run_took, refused_took, step_took, offer_took, way_took, road_took, IsCall, acts_of, stays_within, steps_between}
+use Rattle.pac_board.specs.Hosts.{run_took, refused_took, step_took, offer_took, way_took, road_took, watched_took, IsCall, acts_of, stays_within, steps_between}
 use Rattle.pac_board.specs.Hosts.{AreCalls, acts_over, goes_back, given_over, history, CallsAreOfTheHistory, ListsAreCut, RestoresGiveAgain}
-use Rattle.pac_board.specs.Roads.{GoesUntil}
+use Rattle.pac_board.specs.Roads.{GoesUntil, GoesWatching}
+use Rattle.pac_machine.specs.declared.watch.WatchedWrite.{WatchedWrite}
 use Rattle.pac_board.specs.Turns.{GoesTo, way, way_at}
 
 -- ---- acts, one after another
@@ -300,6 +301,15 @@ module _ {S : Type 0} (to : Giving S) where
   road-acts {E} old limit stops sink (Err refusal) new later goes nothing =
       way-acts {E = E} old limit sink (Err refusal) new later goes nothing
 
+  watched-acts : {E : Type 0} (old : BoardValue) (limit : ℕ) (stops : Option (List ℕ)) (met : Option WatchedWrite) (sink : S)
+      (answer : Result (Option Stop) E) (new : BoardValue) (later : S)
+      → (goes : GoesWatching to old limit stops met sink answer new later) → due_outputs old ≡ []
+      → IsActed old (steps_on old.state.now new.state.now) (watched_took to old limit stops met sink answer new later goes) new
+  watched-acts {E} old limit stops met sink (Ok stop) new later goes nothing =
+      way-acts {E = E} old goes.end sink (Ok stop) new later goes.gone nothing
+  watched-acts {E} old limit stops met sink (Err refusal) new later goes nothing =
+      way-acts {E = E} old limit sink (Err refusal) new later goes nothing
+
 -- ---- a host's calls
 
 abbrev moments : List BoardState → List (Moment BoardView)
@@ -402,6 +412,10 @@ module _ (earlier : List BoardState) where
         let call = done.0 in
         with-kept old own _ _ _ taken new own_is done.2 call.taken_is
         (road-acts to old.board limit stops call.sink call.answer new.board call.later call.done done.1)
+    call-acts (GoWatched limit stops met) old own taken new own_is within done =
+        let call = done.0 in
+        with-kept old own _ _ _ taken new own_is done.2 call.taken_is
+        (watched-acts to old.board limit stops met call.sink call.answer new.board call.later call.done done.1)
     call-acts (CountAsked microseconds) old own taken new own_is within done =
         silent-acts old.board own own _ new _ _ taken done own_is refl (λ before. refl) (λ _. refl)
     call-acts Reset old own taken new own_is within done =

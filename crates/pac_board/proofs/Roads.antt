@@ -1,6 +1,7 @@
--- A board's loop ends at its limit, or earlier, where it is to stop. Then its walk is the one to that time.
-use Rattle.std.proofs.Common.{◌≡◌, ℕ, zero, suc, ◌+◌, ◌<◌, ◌≤◌, nat_lt, Bool, true, false, List, Option, None, Result, Ok, Err}
-use Rattle.std.proofs.Common.{refl, sym, ap, subst, ◌∙◌, arith}
+-- A board's loop ends at its limit, or earlier, where it is to stop or has met a write that is watched. Then its walk is the one to that
+-- time.
+use Rattle.std.proofs.Common.{◌≡◌, ℕ, zero, suc, ◌+◌, ◌<◌, ◌≤◌, nat_lt, Bool, true, false, List, Option, None, Some, Result, Ok, Err}
+use Rattle.std.proofs.Common.{is_some, refl, sym, ap, subst, ◌∙◌, arith}
 use Rattle.std.proofs.lemmas.Bool.Decides.{nat_tests}
 use Rattle.pac_cpu.specs.declared.once.Stop.{Stop}
 use Rattle.pac_map.specs.RomParts.{Parts}
@@ -12,11 +13,14 @@ use Rattle.pac_board_model.specs.Walk.{Walk, walk, walk_onward, walk_after_step}
 use Rattle.pac_board_model.specs.WalkLaws.{has_ended}
 use Rattle.pac_board_model.proofs.Walks.{not-both, going-before, going-steps, late-has-ended, open-goes-on, step-timely}
 use Rattle.pac_machine.specs.declared.trail.PastStep.{PastStep}
+use Rattle.pac_machine.specs.declared.watch.WatchedWrite.{WatchedWrite}
+use Rattle.pac_machine.specs.Watches.{IsWatched}
 use Rattle.pac_machine.specs.Stops.{is_stop}
 use Rattle.pac_machine.specs.StopsProofs.{PassesBy}
 use Rattle.pac_machine.proofs.Passing.{passes-more}
-use Rattle.pac_board.specs.Roads.{HasGoneUntil, GoesUntil}
-use Rattle.pac_board.specs.RoadsProofs.{BoardPasses}
+use Rattle.pac_machine.proofs.Watched.{watched-more}
+use Rattle.pac_board.specs.Roads.{GoesUntil, IsHeld, HasGoneWatching, GoesWatching}
+use Rattle.pac_board.specs.RoadsProofs.{BoardPasses, BoardWatched}
 use Rattle.pac_board.specs.Sinks.{TookAll}
 use Rattle.pac_board.specs.SinksLaws.{Giving}
 use Rattle.pac_board.specs.State.{BoardValue}
@@ -73,9 +77,9 @@ module _ {Board : Type 0} (next : Moment Board → Next Board) (limit : ℕ) (ti
 
 -- one that meets a stop, or has no time left, ends at its limit
 pub gone-to-limit : {S : Type 0} {took : S → Output → S → Type 0} {start : BoardValue} {limit : ℕ} {stops : Option (List ℕ)} {sink : S}
-    {stop : Option Stop} {new : BoardValue} {later : S} → HasGone took start limit sink stop new later
-    → HasGoneUntil took start limit stops sink stop new later
-gone-to-limit {limit = limit} gone =
+    {stop : Option Stop} {new : BoardValue} {later : S} (met : Option WatchedWrite) → HasGone took start limit sink stop new later
+    → HasGoneWatching took start limit stops met sink stop new later
+gone-to-limit {limit = limit} met gone =
     record { end = limit; within = omega arith; some = λ early. early; gone = gone; early = λ less. absurd (omega arith) }
 
 module _ {S : Type 0} {took : S → Output → S → Type 0} {start : BoardValue} {limit : ℕ} {sink : S} {board : BoardValue} {taker : S}
@@ -94,12 +98,12 @@ module _ {S : Type 0} {took : S → Output → S → Type 0} {start : BoardValue
       (ap (λ (v : Walk _). v.stop) same ∙ under.open_yet) (under.board_is ∙ sym (ap (board_after_walk start) same))
       (subst (λ (v : Walk _). TookAll took sink v.outputs taker) (sym same) under.sink_is))
 
-  -- one that stands where it is to stop ends there
-  pub gone-to-stop : (stops : Option (List ℕ)) → start.state.now.time < board.state.now.time
-      → is_stop stops board.state.now.regs.pc ≡ true → HasGoneUntil took start limit stops sink None board taker
-  gone-to-stop stops later stands = here (nat_lt board.state.now.time limit) refl
+  -- one that is held there, or has no time left, ends there
+  gone-there : (stops : Option (List ℕ)) (met : Option WatchedWrite) → start.state.now.time < board.state.now.time
+      → IsHeld stops board.state.now.time met None board → HasGoneWatching took start limit stops met sink None board taker
+  gone-there stops met later held = here (nat_lt board.state.now.time limit) refl
     where
-      here : (b : Bool) → nat_lt board.state.now.time limit ≡ b → HasGoneUntil took start limit stops sink None board taker
+      here : (b : Bool) → nat_lt board.state.now.time limit ≡ b → HasGoneWatching took start limit stops met sink None board taker
       here true e =
           let early : board.state.now.time < limit = grind (arith, nat_tests) in
           record {
@@ -107,13 +111,35 @@ module _ {S : Type 0} {took : S → Output → S → Type 0} {start : BoardValue
             within = omega arith;
             some = λ some. later;
             gone = ends-there early;
-            early = λ less. record { none = refl; time_is = refl; here = stands };
+            early = λ less. held;
           }
-      here false e = gone-to-limit (time-is-over under (grind (arith, nat_tests)))
+      here false e = gone-to-limit met (time-is-over under (grind (arith, nat_tests)))
 
--- without such addresses it ends at its limit alone
-pub gone-free : {S : Type 0} {took : S → Output → S → Type 0} {start : BoardValue} {limit : ℕ} {sink : S} {stop : Option Stop}
-    {new : BoardValue} {later : S} → HasGoneUntil took start limit None sink stop new later → HasGone took start limit sink stop new later
+  -- one that stands where it is to stop
+  pub gone-to-stop : (stops : Option (List ℕ)) (met : Option WatchedWrite) → met ≡ None → start.state.now.time < board.state.now.time
+      → is_stop stops board.state.now.regs.pc ≡ true → HasGoneWatching took start limit stops met sink None board taker
+  gone-to-stop stops met none later stands =
+      subst (λ (met : Option WatchedWrite). HasGoneWatching took start limit stops met sink None board taker) (sym none)
+      (gone-there stops None later (record { none = refl; time_is = refl; here = stands }))
+
+  -- one that has met a write that is watched
+  pub gone-to-write : (stops : Option (List ℕ)) (met : Option WatchedWrite) → is_some met ≡ true
+      → start.state.now.time < board.state.now.time → HasGoneWatching took start limit stops met sink None board taker
+  gone-to-write stops None some later = not-both (sym some)
+  gone-to-write stops (Some write) some later = gone-there stops (Some write) later (refl, refl)
+
+-- where nothing is watched it ends at such an address
+pub goes-unwatched : {S E : Type 0} (to : Giving S) (start : BoardValue) (limit : ℕ) (stops : Option (List ℕ)) (sink : S)
+    (answer : Result (Option Stop) E) (new : BoardValue) (later : S) → GoesWatching to start limit stops None sink answer new later
+    → GoesUntil to start limit stops sink answer new later
+goes-unwatched to start limit stops sink (Ok stop) new later gone =
+    record { end = gone.end; within = gone.within; some = gone.some; gone = gone.gone; early = gone.early }
+goes-unwatched to start limit stops sink (Err refusal) new later gone = gone
+
+-- and without such addresses at its limit alone
+gone-free : {S : Type 0} {took : S → Output → S → Type 0} {start : BoardValue} {limit : ℕ} {sink : S} {stop : Option Stop}
+    {new : BoardValue} {later : S} → HasGoneWatching took start limit None None sink stop new later
+    → HasGone took start limit sink stop new later
 gone-free {S} {took} {start} {limit} {sink} {stop} {new} {later} gone = here (nat_lt gone.end limit) refl
   where
     here : (b : Bool) → nat_lt gone.end limit ≡ b → HasGone took start limit sink stop new later
@@ -125,9 +151,9 @@ gone-free {S} {took} {start} {limit} {sink} {stop} {new} {later} gone = here (na
 
 pub goes-free : {S E : Type 0} (to : Giving S) (start : BoardValue) (limit : ℕ) (stops : Option (List ℕ)) (sink : S)
     (answer : Result (Option Stop) E) (new : BoardValue) (later : S) → stops ≡ None
-    → GoesUntil to start limit stops sink answer new later → GoesTo to start limit sink answer new later
+    → GoesWatching to start limit stops None sink answer new later → GoesTo to start limit sink answer new later
 goes-free to start limit stops sink (Ok stop) new later none gone =
-    gone-free (subst (λ (stops : Option (List ℕ)). HasGoneUntil to.took start limit stops sink stop new later) none gone)
+    gone-free (subst (λ (stops : Option (List ℕ)). HasGoneWatching to.took start limit stops None sink stop new later) none gone)
 goes-free to start limit stops sink (Err refusal) new later none gone = gone
 
 -- ---- what is passed by
@@ -140,3 +166,12 @@ pub passes-further : (old mid new : BoardValue) (limit : ℕ) (stops : Option (L
 passes-further old mid new limit stops told between set one passed more =
     passes-more (step (by_view old.set)) stops old.state.now new.state.now.steps one passed
     (subst (λ (set : Parts). PassesBy (step (by_view set)) stops mid.state.now new.state.now.steps) set more)
+
+pub watched-further : (old mid new : BoardValue) (limit : ℕ) (marks : Option (List ℕ)) (met : Option WatchedWrite)
+    (told between after : Option (List PastStep)) → mid.set ≡ old.set → IsTold old limit mid told between
+    → BoardWatched marks old mid None → IsTold mid limit new between after → BoardWatched marks mid new met
+    → BoardWatched marks old new met
+watched-further old mid new limit marks met told between after set one watched two more =
+    let so_many = two.steps in
+    watched-more old.set marks (step (by_view old.set)) old.state.now new.state.now.steps met one watched (omega arith)
+    (subst (λ (set : Parts). IsWatched set marks (step (by_view set)) mid.state.now new.state.now.steps met) set more)

@@ -28,7 +28,8 @@ use Rattle.pac_board.specs.SinksLaws.{Giving}
 use Rattle.pac_board.specs.State.{BoardValue, BoardState, due_outputs, board_after_reset, board_with_inputs}
 use Rattle.pac_board.specs.StateLaws.{restored_board}
 use Rattle.pac_board.specs.StateLaws.{with_more_asked}
-use Rattle.pac_board.specs.Roads.{GoesUntil}
+use Rattle.pac_board.specs.Roads.{GoesUntil, GoesWatching}
+use Rattle.pac_machine.specs.declared.watch.WatchedWrite.{WatchedWrite}
 use Rattle.pac_board.specs.Turns.{GoesTo, way}
 use Rattle.pac_board.specs.CallsLaws.{Executes, StepsOnce, Offers, Advances, IsOfferRefused, IsStepRefused}
 use Rattle.pac_board.specs.Calls.{next_of, outputs_in}
@@ -43,6 +44,8 @@ pub data Call : Type 0 where
   GoTo : (limit : ℕ) → Call
   -- `go`, which may stop before an address of a map
   GoOn : (limit : ℕ) → (stops : Option (List ℕ)) → Call
+  -- `go_watched`, which may also stop after a write that is watched
+  GoWatched : (limit : ℕ) → (stops : Option (List ℕ)) → (met : Option WatchedWrite) → Call
   CountAsked : (microseconds : ℕ) → Call
   Reset : Call
   InputSet : (mask : ℕ) → Call
@@ -94,6 +97,12 @@ abbrev pub road_took : {S E : Type 0} (to : Giving S) (old : BoardValue) (limit 
 road_took to old limit stops sink (Ok stop) new later goes = (way old goes.end).outputs
 road_took to old limit stops sink (Err refusal) new later goes = goes.cut.taken
 
+abbrev pub watched_took : {S E : Type 0} (to : Giving S) (old : BoardValue) (limit : ℕ) (stops : Option (List ℕ)) (met : Option WatchedWrite)
+    (sink : S) (answer : Result (Option Stop) E) (new : BoardValue) (later : S) → GoesWatching to old limit stops met sink answer new later
+    → List Output
+watched_took to old limit stops met sink (Ok stop) new later goes = (way old goes.end).outputs
+watched_took to old limit stops met sink (Err refusal) new later goes = goes.cut.taken
+
 -- ---- calls
 
 -- a call with some sink and some answer, which does this; and what the sink took
@@ -134,6 +143,11 @@ IsCall to (GoOn limit stops) old taken new =
     (λ sink answer later. GoesUntil to old.board limit stops sink answer new.board later)
     (λ sink answer later done. road_took to old.board limit stops sink answer new.board later done) taken
     × (due_outputs old.board ≡ []) × (new.kept ≡ old.kept)
+IsCall to (GoWatched limit stops met) old taken new =
+    IsCallAnswered {A = Result (Option Stop) sinks.Refused}
+    (λ sink answer later. GoesWatching to old.board limit stops met sink answer new.board later)
+    (λ sink answer later done. watched_took to old.board limit stops met sink answer new.board later done) taken
+    × (due_outputs old.board ≡ []) × (new.kept ≡ old.kept)
 IsCall to (CountAsked microseconds) old taken new =
     IsSilent (record { board = with_more_asked old.board microseconds; kept = old.kept }) taken new
 IsCall to Reset old taken new = IsSilent (record { board = board_after_reset old.board; kept = old.kept }) taken new
@@ -159,6 +173,7 @@ acts_of older Advance steps = replicate steps StepOn
 acts_of older Offer steps = []
 acts_of older (GoTo limit) steps = replicate steps StepOn
 acts_of older (GoOn limit stops) steps = replicate steps StepOn
+acts_of older (GoWatched limit stops met) steps = replicate steps StepOn
 acts_of older (CountAsked microseconds) steps = []
 acts_of older Reset steps = ResetBoard ∷ []
 acts_of older (InputSet mask) steps = HoldToo mask ∷ []

@@ -8,8 +8,8 @@ ghost use Rattle.pac_board.specs.CallsLaws.{Offers, IsAdvanced, Advances, StepsO
 ghost use Rattle.pac_board.specs.SinksLaws.{by};
 ghost use Rattle.pac_board.specs.TurnsProofs.{Turns};
 ghost use Rattle.pac_board.specs.Turns.{GoesTo};
-ghost use Rattle.pac_board.specs.Roads.{GoesUntil};
-ghost use Rattle.pac_board.specs.RoadsProofs.{BoardPasses};
+ghost use Rattle.pac_board.specs.Roads.{GoesUntil, GoesWatching};
+ghost use Rattle.pac_board.specs.RoadsProofs.{BoardPasses, BoardWatched};
 ghost use Rattle.pac_board.specs.Stretches.{IsStretched, HasBatch, Stretches, IsTold};
 ghost use Rattle.pac_machine.specs.Bursts.{next_sample};
 
@@ -18,7 +18,7 @@ use crate::fault::{Fault, Idle};
 use crate::offer::offer;
 use crate::sink::{Refused, Sink};
 use pac_cpu::{Once, Stop};
-use pac_machine::{Due, MOST_ASKED, SAMPLE_TICKS, Stops, Trail};
+use pac_machine::{Due, MOST_ASKED, SAMPLE_TICKS, Stops, Trail, Unwatched, Watch};
 use std::mem::forget;
 
 /// The time, in T-states, from which on no step is begun (this profile).
@@ -120,30 +120,35 @@ impl Board {
     }
 
     /// Does steps of a board with nothing due up to the end of the scan's line, to a limit before it, or to a stop, or some of these; but the
-    /// first, none that begins where it is to stop. Answers whether a stop came, how many samples those before the last gave, and what the
-    /// last gives, which isn't due yet. Each step is told.
+    /// first, none that begins where it is to stop; and none after one that met a write that is watched. Answers whether a stop came, how
+    /// many samples those before the last gave, and what the last gives, which isn't due yet. Each step is told.
     #[inline(always)]
-    fn make_stretch(
+    fn make_stretch<W: Watch>(
         &mut self,
         limit: u64,
         samples: &mut [i16; 5],
         stops: &Stops<'_>,
         told: &mut Trail,
+        watch: &mut W,
         met: &mut Option<Stop>,
     ) -> (bool, usize, Due)
         requires early { self.old.state.now.time < limit }
         requires limit { limit ≤ latest }
         requires nothing { due_outputs self.old ≡ [] }
         requires none { met.old ≡ None }
+        requires unmet { W.met watch.old ≡ None }
         ensures made { HasBatch self.old limit met.new (take result.1 samples.new) (with_due self.new result.2) }
         ensures told { IsTold self.old limit self.new told.old told.new }
         ensures passes { BoardPasses stops.now self.old self.new }
+        ensures watched { BoardWatched (W.marks watch.old) self.old self.new (W.met watch.new) }
+        ensures marks { W.marks watch.new ≡ W.marks watch.old }
         ensures nothing { self.new.state.due ≡ nothing_due }
         ensures stopped { result.0 ≡ is_some met.new }
         ensures count { result.1 ≤ 5 }
         ensures single { limit ≤ next_sample self.old.state.now.time → result.1 ≡ 0 }
     {
-        self.machine.stretch(limit, samples, stops, told, met)
+        self.machine
+            .stretch(limit, samples, stops, told, watch, met)
     }
 
     /// A limit for a sink that has room for so many samples at once: where a line's don't fit, the next sample's moment at the latest.
@@ -171,31 +176,49 @@ impl Board {
         let near = self.time() + 1;
         let mut samples = [0; 5];
         let mut nobody = Trail::silent();
-        let (_, _, due) = self.make_stretch(near, &mut samples, &Stops::none(), &mut nobody, met);
+        let (_, _, due) = self.make_stretch(
+            near,
+            &mut samples,
+            &Stops::none(),
+            &mut nobody,
+            &mut Unwatched,
+            met,
+        );
         forget(nobody);
         self.due = due;
     }
 
     /// Does steps, and offers what they give: the samples of those before the last at once, where the sink has room for a line's.
     #[inline(always)]
-    fn stretch<S: Sink>(
+    fn stretch<S: Sink, W: Watch>(
         &mut self,
         limit: u64,
         stops: &Stops<'_>,
         told: &mut Trail,
+        watch: &mut W,
         sink: &mut S,
     ) -> Result<Option<Stop>, Refused>
         requires early { self.old.state.now.time < limit }
         requires limit { limit ≤ latest }
         requires nothing { due_outputs self.old ≡ [] }
+        requires unmet { W.met watch.old ≡ None }
         ensures made { Stretches (by S.took S.refused) self.old limit sink.old result self.new sink.new }
         ensures told { IsTold self.old limit self.new told.old told.new }
         ensures passes { BoardPasses stops.now self.old self.new }
+        ensures watched { BoardWatched (W.marks watch.old) self.old self.new (W.met watch.new) }
+        ensures marks { W.marks watch.new ≡ W.marks watch.old }
     {
         let mut met = None;
         let mut samples = [0; 5];
         let near = self.limit_for(limit, S::room(sink));
-        let (stopped, count, given) = self.make_stretch(near, &mut samples, stops, told, &mut met);
+        let (stopped, count, given) = self.make_stretch(
+            near,
+            &mut samples,
+            stops,
+            told,
+            watch,
+            &mut met,
+        );
         sink.samples(&samples[..count]);
         self.give(given, sink)?;
         if stopped {
@@ -204,26 +227,32 @@ impl Board {
         Ok(None)
     }
 
-    /// Does steps while the time is before a limit, up to a stop, or before one that begins where it is to stop, unless it is the first, and
-    /// offers what each gives. Each step is told.
+    /// Does steps while the time is before a limit, up to a stop, or before one that begins where it is to stop, unless it is the first, or
+    /// up to one that met a write that is watched, and offers what each gives. Each step is told.
     #[inline(always)]
-    fn run<S: Sink>(
+    fn run<S: Sink, W: Watch>(
         &mut self,
         limit: u64,
         stops: &Stops<'_>,
         told: &mut Trail,
+        watch: &mut W,
         sink: &mut S,
     ) -> Result<Option<Stop>, Refused>
         requires limit { limit ≤ latest }
         requires nothing { due_outputs self.old ≡ [] }
         requires made { self.old.made < 2 ^ 64 }
-        ensures made { GoesUntil (by S.took S.refused) self.old limit stops.now sink.old result self.new sink.new }
+        requires unmet { W.met watch.old ≡ None }
+        ensures made { GoesWatching (by S.took S.refused) self.old limit stops.now (W.met watch.new) sink.old result self.new sink.new }
         ensures told { IsTold self.old limit self.new told.old told.new }
         ensures passes { BoardPasses stops.now self.old self.new }
+        ensures watched { BoardWatched (W.marks watch.old) self.old self.new (W.met watch.new) }
     {
         while self.time() < limit {
-            if let Some(met) = self.stretch(limit, stops, told, sink)? {
+            if let Some(met) = self.stretch(limit, stops, told, watch, sink)? {
                 return Ok(Some(met));
+            }
+            if watch.has_met() {
+                return Ok(None);
             }
             if stops.has(self.regs().pc) {
                 return Ok(None);
@@ -242,7 +271,7 @@ impl Board {
         ensures { GoesTo (by S.took S.refused) self.old limit sink.old result self.new sink.new }
     {
         let mut nobody = Trail::silent();
-        let ran = self.run(limit, &Stops::none(), &mut nobody, sink);
+        let ran = self.run(limit, &Stops::none(), &mut nobody, &mut Unwatched, sink);
         forget(nobody);
         ran
     }
@@ -274,7 +303,28 @@ impl Board {
         ensures passes { BoardPasses stops.now self.old self.new }
     {
         self.made();
-        self.run(limit, stops, told, sink)
+        self.run(limit, stops, told, &mut Unwatched, sink)
+    }
+
+    /// As `go`, and none is done after a step that met a write that is watched.
+    pub fn go_watched<S: Sink, W: Watch>(
+        &mut self,
+        limit: u64,
+        stops: &Stops<'_>,
+        told: &mut Trail,
+        watch: &mut W,
+        sink: &mut S,
+    ) -> Result<Option<Stop>, Refused>
+        requires limit { limit ≤ latest }
+        requires nothing { due_outputs self.old ≡ [] }
+        requires unmet { W.met watch.old ≡ None }
+        ensures made { GoesWatching (by S.took S.refused) self.old limit stops.now (W.met watch.new) sink.old result self.new sink.new }
+        ensures told { IsTold self.old limit self.new told.old told.new }
+        ensures passes { BoardPasses stops.now self.old self.new }
+        ensures watched { BoardWatched (W.marks watch.old) self.old self.new (W.met watch.new) }
+    {
+        self.made();
+        self.run(limit, stops, told, watch, sink)
     }
 
     /// Lets so many microseconds go by: offers what is due, then does steps, and offers what each gives, while the time is before

@@ -11,3 +11,4 @@ pub mod Notes
 pub mod Noted
 pub mod Noting
 pub mod Passing
+pub mod Watched

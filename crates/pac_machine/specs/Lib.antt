@@ -6,5 +6,7 @@ pub mod BurstsProofs
 pub mod Trails
 pub mod Stops
 pub mod StopsProofs
+pub mod Watches
+pub mod WatchesProofs
 pub mod Fields
 pub use Rattle.pac_wave.specs.Wave

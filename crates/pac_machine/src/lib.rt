@@ -12,6 +12,7 @@ mod sockets;
 mod stops;
 mod timing;
 mod trail;
+mod watch;
 
 pub use due::Due;
 pub use fields::{Fields, MOST_ASKED};
@@ -20,3 +21,4 @@ pub use machine::Machine;
 pub use stops::{Marks, Stops};
 pub use timing::{FRAME_SAMPLES, FRAME_TICKS, SAMPLE_TICKS};
 pub use trail::{PastStep, Trail};
+pub use watch::{Unwatched, Watch, WatchedWrite, Watching};

@@ -8,7 +8,7 @@ use Rattle.pac_board.proofs.Told.{board-noted}
 use Rattle.pac_board.proofs.board.Board.make_stretch.Goals as goal
 
 pub returns-clause-told : goal.returns-clause-told
-returns-clause-told c =
+returns-clause-told g c =
     let old = c.self.inside.machine in
     let until = line_end c.args.limit old.now.time in
     let told : IsNoted (step (by_view old.set)) until old.now c.stretch.new.self.now c.args.told.now c.stretch.new.told =

@@ -1,0 +1,314 @@
+-- Writes that are watched: those of a step over a bus that looks at them, and of steps one after another.
+use Rattle.std.proofs.Common.{◌≡◌, ℕ, zero, suc, ◌+◌, ◌-◌, ◌*◌, ◌<◌, ◌≤◌, nat_lt, nat_le, Bool, true, false, ◌&&◌, not, is_some, cond}
+use Rattle.std.proofs.Common.{List, [], ◌∷◌, ◌++◌, Option, None, Some, refl, sym, ap, subst, ◌∙◌, arith}
+use Rattle.std.proofs.lemmas.Bool.Decides.{nat_tests}
+use Rattle.pac_cpu.specs.Action.{Action, Write, Output}
+use Rattle.pac_cpu.specs.ActionLaws.{bus_after_actions}
+use Rattle.pac_cpu.specs.Regs.{Regs}
+use Rattle.pac_cpu.specs.Step.{Surroundings, CpuStep, Steps, Stops, cpu_step, halted_step}
+use Rattle.pac_cpu.specs.StepLaws.{surroundings_of}
+use Rattle.pac_cpu.specs.StepProofs.{DoesCpuStep, actions_of, once_of_step}
+use Rattle.pac_cpu.specs.declared.once.Once.{Once}
+use Rattle.pac_cpu.specs.declared.once.Once.TheVariants.{Stepped, Stopped}
+use Rattle.pac_cpu.specs.declared.once.Stop.{Stop}
+use Rattle.pac_map.specs.ContentsProofs.{map_byte_at, map_input_at, map_after_action}
+use Rattle.pac_map.specs.RomParts.{Parts}
+use Rattle.pac_map.specs.declared.board_bus.Map.{Map}
+use Rattle.pac_wave.specs.Wave.{Accumulators}
+use Rattle.pac_board_model.specs.BoardView.{BoardView}
+use Rattle.pac_board_model.specs.Step.{Moment, Next, surroundings, step}
+use Rattle.pac_board_model.specs.Trace.{by_view}
+use Rattle.pac_machine.specs.declared.trail.PastStep.{PastStep}
+use Rattle.pac_machine.specs.declared.watch.WatchedBus.{WatchedBus}
+use Rattle.pac_machine.specs.declared.watch.WatchedWrite.{WatchedWrite}
+use Rattle.pac_machine.specs.StandingProofs.{BoardStanding}
+use Rattle.pac_machine.specs.BurstsProofs.{eventless_step, BurstsQuietly, is_waiting, next_line, line_end, burst_at}
+use Rattle.pac_machine.specs.Events.{Acts, part_of}
+use Rattle.pac_machine.specs.Stops.{is_stop}
+use Rattle.pac_machine.specs.Trails.{IsNoted, stepped}
+use Rattle.pac_machine.specs.Watches.{first_watched, watched_in, watched_at, IsWatched}
+use Rattle.pac_machine.specs.WatchesProofs.{looked_at, met_after, watched_byte_at, watched_input_at, watched_after_action}
+use Rattle.pac_machine.proofs.Batches.{surroundings-voiced, voiced_now, voices_after}
+use Rattle.pac_machine.proofs.Noted.{stepped-joined, waits-on, burst-within, told-at}
+use Rattle.pac_machine.proofs.Processor.{surroundings-agree, board_of}
+use Rattle.pac_machine.proofs.Waits.{halted-part, waiting-halted}
+
+pub none-met : {A : Type 0} (met : Option A) → is_some met ≡ false → met ≡ None
+none-met None none = refl
+none-met (Some one) none = absurd (cc)
+
+-- ---- nothing is watched
+
+pub free-of-writes : (seen : Surroundings) (done left : List Action) → first_watched seen None done left ≡ None
+free-of-writes seen done [] = refl
+free-of-writes seen done (Write address byte ∷ left) = free-of-writes seen (done ++ Write address byte ∷ []) left
+free-of-writes seen done (Output port byte ∷ left) = free-of-writes seen (done ++ Output port byte ∷ []) left
+
+pub unwatched : (seen : Surroundings) (part : CpuStep) → watched_in seen None part ≡ None
+unwatched seen (Steps regs actions ticks kind) = free-of-writes seen [] actions
+unwatched seen (Stops stop) = refl
+
+-- ---- the bus that looks at each write
+
+abbrev after_all : WatchedBus → List Action → WatchedBus
+after_all = bus_after_actions watched_after_action
+
+abbrev seen_by : Map → Surroundings
+seen_by map = surroundings_of map_byte_at map_input_at map_after_action map
+
+pub map-acted : (bus : WatchedBus) (actions : List Action)
+    → (after_all bus actions).map.now ≡ bus_after_actions map_after_action bus.map.now actions
+map-acted bus [] = refl
+map-acted bus (action ∷ actions) = map-acted (watched_after_action bus action) actions
+
+name-kept : (bus : WatchedBus) (actions : List Action) → (after_all bus actions).map.ghost_name ≡ bus.map.ghost_name
+name-kept bus [] = refl
+name-kept bus (action ∷ actions) = name-kept (watched_after_action bus action) actions
+
+seen-alike : (bus : WatchedBus)
+    → surroundings_of watched_byte_at watched_input_at watched_after_action bus ≡ seen_by bus.map.now
+seen-alike bus = λ i. record {
+  byte_at = λ actions at. map_byte_at (map-acted bus actions i) at;
+  input_at = map_input_at bus.map.now;
+  instruction_at = (seen_by bus.map.now).instruction_at;
+}
+
+-- a write to what a bus keeps
+abbrev write_over : (address byte : ℕ) → Map → WatchedWrite
+write_over address byte before = record { address = address; before = map_byte_at before address; written = byte }
+
+-- once one was met it stays
+met-stays : (bus : WatchedBus) (one : WatchedWrite) (actions : List Action) → bus.met ≡ Some one → (after_all bus actions).met ≡ Some one
+met-stays bus one [] met = met
+met-stays bus one (Output port byte ∷ actions) met = met-stays (watched_after_action bus (Output port byte)) one actions met
+met-stays bus one (Write address byte ∷ actions) met =
+    met-stays (watched_after_action bus (Write address byte)) one actions (here (is_stop (Some bus.marks.now) address))
+  where
+    here : (b : Bool) → cond (b && not (is_some bus.met)) (Some (write_over address byte bus.map.now)) bus.met ≡ Some one
+    here true = ap (λ (m : Option WatchedWrite). cond (not (is_some m)) (Some (write_over address byte bus.map.now)) m) met
+    here false = met
+
+done-more : (map : Map) (done : List Action) (action : Action)
+    → bus_after_actions map_after_action map (done ++ action ∷ []) ≡ map_after_action (bus_after_actions map_after_action map done) action
+done-more map [] action = refl
+done-more map (first ∷ done) action = done-more (map_after_action map first) done action
+
+met-first : (map : Map) (bus : WatchedBus) (done left : List Action) → bus.map.now ≡ bus_after_actions map_after_action map done
+    → bus.met ≡ None → (after_all bus left).met ≡ first_watched (seen_by map) (Some bus.marks.now) done left
+met-first map bus done [] there none = none
+met-first map bus done (Output port byte ∷ left) there none =
+    met-first map (watched_after_action bus (Output port byte)) (done ++ Output port byte ∷ []) left
+    (ap (λ m. map_after_action m (Output port byte)) there ∙ sym (done-more map done (Output port byte))) none
+met-first map bus done (Write address byte ∷ left) there none =
+    let after_is = ap (λ m. map_after_action m (Write address byte)) there ∙ sym (done-more map done (Write address byte)) in
+    here (is_stop (Some bus.marks.now) address) refl
+    (met-first map (watched_after_action bus (Write address byte)) (done ++ Write address byte ∷ []) left after_is)
+  where
+    kept : (b : Bool) → is_stop (Some bus.marks.now) address ≡ b → (watched_after_action bus (Write address byte)).met ≡ cond b (Some (write_over address byte bus.map.now)) None
+    kept true is =
+        ap (λ b. cond (b && not (is_some bus.met)) (Some (write_over address byte bus.map.now)) bus.met) is
+        ∙ ap (λ (m : Option WatchedWrite). cond (not (is_some m)) (Some (write_over address byte bus.map.now)) m) none
+    kept false is = ap (λ b. cond (b && not (is_some bus.met)) (Some (write_over address byte bus.map.now)) bus.met) is ∙ none
+
+    found : (b : Bool) → is_stop (Some bus.marks.now) address ≡ b
+        → first_watched (seen_by map) (Some bus.marks.now) done (Write address byte ∷ left)
+        ≡ cond b (Some (write_over address byte (bus_after_actions map_after_action map done)))
+        (first_watched (seen_by map) (Some bus.marks.now) (done ++ Write address byte ∷ []) left)
+    found b is =
+        ap (λ b. cond b (Some (write_over address byte (bus_after_actions map_after_action map done)))
+        (first_watched (seen_by map) (Some bus.marks.now) (done ++ Write address byte ∷ []) left)) is
+
+    here : (b : Bool) → is_stop (Some bus.marks.now) address ≡ b
+        → ((watched_after_action bus (Write address byte)).met ≡ None → (after_all (watched_after_action bus (Write address byte)) left).met
+        ≡ first_watched (seen_by map) (Some bus.marks.now) (done ++ Write address byte ∷ []) left)
+        → (after_all (watched_after_action bus (Write address byte)) left).met ≡ first_watched (seen_by map) (Some bus.marks.now) done (Write address byte ∷ left)
+    here true is more =
+        met-stays (watched_after_action bus (Write address byte)) (write_over address byte bus.map.now) left (kept true is)
+        ∙ ap (λ before. Some (write_over address byte before)) there ∙ sym (found true is)
+    here false is more = more (kept false is) ∙ sym (found false is)
+
+-- a step over it
+module _ (bus new : WatchedBus) (regs left : Regs) (request : Option ℕ) (once : Once)
+    (did : DoesCpuStep watched_after_action
+    (cpu_step (surroundings_of watched_byte_at watched_input_at watched_after_action bus) regs request) regs bus left new once) where
+  abbrev part : CpuStep
+  part = cpu_step (seen_by bus.map.now) regs request
+
+  did_alike : DoesCpuStep watched_after_action part regs bus left new once
+  did_alike =
+      subst (λ (seen : Surroundings). DoesCpuStep watched_after_action (cpu_step seen regs request) regs bus left new once)
+      (seen-alike bus) did
+
+  pub watched-did : DoesCpuStep map_after_action part regs bus.map.now left new.map.now once
+  watched-did = record {
+    regs = did_alike.regs;
+    bus = ap (λ (b : WatchedBus). b.map.now) did_alike.bus ∙ map-acted bus (actions_of part);
+    once = did_alike.once;
+  }
+
+  pub watched-name : new.map.ghost_name ≡ bus.map.ghost_name
+  watched-name = ap (λ (b : WatchedBus). b.map.ghost_name) did_alike.bus ∙ name-kept bus (actions_of part)
+
+  pub watched-met : bus.met ≡ None → new.met ≡ watched_in (seen_by bus.map.now) (Some bus.marks.now) part
+  watched-met none = ap (λ (b : WatchedBus). b.met) did_alike.bus ∙ here part
+    where
+      here : (h : CpuStep) → (after_all bus (actions_of h)).met ≡ watched_in (seen_by bus.map.now) (Some bus.marks.now) h
+      here (Steps after actions ticks kind) = met-first bus.map.now bus [] actions refl none
+      here (Stops stop) = none
+
+-- ---- the processor's part of a step
+
+pub acts-watched : (map : Map) (regs : Regs) (accumulators : Accumulators) (lines : List (List ℕ)) (marks : Option (List ℕ))
+    (request asked : Option ℕ) → request ≡ asked
+    → watched_in (seen_by map) marks (cpu_step (seen_by map) regs request)
+    ≡ watched_in (surroundings (by_view map.set) (board_of map accumulators lines)) marks
+    (cpu_step (surroundings (by_view map.set) (board_of map accumulators lines)) regs asked)
+acts-watched map regs accumulators lines marks request asked same =
+    λ i. watched_in (surroundings-agree map accumulators lines i) marks (cpu_step (surroundings-agree map accumulators lines i) regs (same i))
+
+-- a stop writes nothing
+pub stop-writes-nothing : (self mid : BoardStanding) (once : Once) (stop : Stop) (marks : Option (List ℕ)) → Acts self mid once
+    → once ≡ Stopped stop → watched_at self.set marks self.now ≡ None
+stop-writes-nothing self mid once stop marks acts is = here (part_of self) (sym is ∙ acts.once_is)
+  where
+    here : (h : CpuStep) → Stopped stop ≡ once_of_step h
+        → watched_in (surroundings (by_view self.set) self.now.board) marks h ≡ None
+    here (Steps regs actions ticks kind) told = absurd (cc)
+    here (Stops other) told = refl
+
+-- ---- one step after another
+
+module _ (set : Parts) (marks : Option (List ℕ)) (next : Moment BoardView → Next BoardView) (from : Moment BoardView) where
+  abbrev Watched : (steps : ℕ) (met : Option WatchedWrite) → Type 0
+  Watched = IsWatched set marks next from
+
+  pub watched-first : (steps : ℕ) → steps ≡ from.steps → Watched steps None
+  watched-first steps same = record {
+    before = λ n few. absurd (omega arith);
+    last = λ n few. absurd (omega arith);
+    none = λ few. refl;
+  }
+
+  -- one more
+  pub watched-on : {until : ℕ} {to : Moment BoardView} {told after : Option (List PastStep)} (met : Option WatchedWrite)
+      → IsNoted next until from to told after → Watched to.steps None → watched_at set marks to ≡ met → Watched (to.steps + 1) met
+  watched-on {until} {to} met so_far watched one =
+      let so_many = so_far.steps in
+      record {
+        before = λ n few. before n few (nat_le (from.steps + suc (suc n)) to.steps) refl;
+        last = λ n same.
+            let count : so_far.count ≡ n = omega arith in
+            subst (λ (m : Moment BoardView). watched_at set marks m ≡ met) (so_far.now ∙ ap (stepped next from) count) one;
+        none = λ few. absurd (omega arith);
+      }
+    where
+      before : (n : ℕ) → from.steps + suc (suc n) ≤ to.steps + 1 → (b : Bool) → nat_le (from.steps + suc (suc n)) to.steps ≡ b
+          → watched_at set marks (stepped next from n) ≡ None
+      before n few true e = watched.before n (grind (arith, nat_tests))
+      before n few false e = watched.last n (grind (arith, nat_tests))
+
+  -- some, and then some more
+  pub watched-more : {until : ℕ} {mid : Moment BoardView} {told between : Option (List PastStep)} (steps : ℕ) (met : Option WatchedWrite)
+      → IsNoted next until from mid told between → Watched mid.steps None → mid.steps ≤ steps → IsWatched set marks next mid steps met
+      → Watched steps met
+  watched-more {until} {mid} {told} steps met one watched later more =
+      let so_many = one.steps in
+      record {
+        before = λ n few. before n few (nat_lt n one.count) refl;
+        last = λ n same. last n same (nat_lt n one.count) refl;
+        none = λ few. more.none (omega arith);
+      }
+    where
+      there : (n : ℕ) → one.count ≤ n → stepped next mid (n - one.count) ≡ stepped next from n
+      there n after_first =
+          let same : one.count + (n - one.count) ≡ n = omega arith in
+          ap (λ m. stepped next m (n - one.count)) one.now ∙ stepped-joined next from told one.count (n - one.count)
+          ∙ ap (stepped next from) same
+
+      first : (n : ℕ) → n < one.count → watched_at set marks (stepped next from n) ≡ None
+      first n less = choose (nat_le (suc (suc n)) one.count) refl
+        where
+          choose : (b : Bool) → nat_le (suc (suc n)) one.count ≡ b → watched_at set marks (stepped next from n) ≡ None
+          choose true e = let so_many = one.steps in watched.before n (grind (arith, nat_tests))
+          choose false e = let so_many = one.steps in watched.last n (grind (arith, nat_tests))
+
+      before : (n : ℕ) → from.steps + suc (suc n) ≤ steps → (b : Bool) → nat_lt n one.count ≡ b
+          → watched_at set marks (stepped next from n) ≡ None
+      before n few true e = first n (grind (arith, nat_tests))
+      before n few false e =
+          let so_many = one.steps in
+          let past : one.count ≤ n = grind (arith, nat_tests) in
+          subst (λ (m : Moment BoardView). watched_at set marks m ≡ None) (there n past) (more.before (n - one.count) (omega arith))
+
+      last : (n : ℕ) → from.steps + suc n ≡ steps → (b : Bool) → nat_lt n one.count ≡ b
+          → watched_at set marks (stepped next from n) ≡ met
+      last n same true e =
+          let so_many = one.steps in
+          let less : n < one.count = grind (arith, nat_tests) in
+          first n less ∙ sym (more.none (omega arith))
+      last n same false e =
+          let so_many = one.steps in
+          let past : one.count ≤ n = grind (arith, nat_tests) in
+          subst (λ (m : Moment BoardView). watched_at set marks m ≡ met) (there n past) (more.last (n - one.count) (omega arith))
+
+-- ---- halted steps in one go
+
+pub waits-watched : (old : BoardStanding) (until n : ℕ) (marks : Option (List ℕ)) → is_waiting old ≡ true
+    → old.now.time + 4 * n < until + 4
+    → IsWatched old.set marks (eventless_step (by_view old.set)) old.now (old.now.steps + n) None
+waits-watched old until n marks waiting soon = record {
+  before = λ m few. quiet m (omega arith);
+  last = λ m same. quiet m (omega arith);
+  none = λ few. refl;
+}
+  where
+    facts : (old.now.regs.halted ≡ true) × ((old.now.regs.iff1 && is_some ((by_view old.set).request old.now.board)) ≡ false)
+    facts = waiting-halted old.now.regs.halted (old.now.regs.iff1 && is_some ((by_view old.set).request old.now.board)) waiting
+
+    seen : Surroundings
+    seen = surroundings (by_view old.set) old.now.board
+
+    still : (regs : Regs) → regs.halted ≡ true → (regs.iff1 && is_some ((by_view old.set).request old.now.board)) ≡ false
+        → watched_in seen marks (cpu_step seen regs ((by_view old.set).request old.now.board)) ≡ None
+    still regs halted none =
+        ap (watched_in seen marks) (halted-part seen regs ((by_view old.set).request old.now.board) halted none)
+
+    quiet : (m : ℕ) → m < n → watched_at old.set marks (stepped (eventless_step (by_view old.set)) old.now m) ≡ None
+    quiet zero less = still old.now.regs facts.0 facts.1
+    quiet (suc m) less =
+        let on = waits-on old until None facts.0 facts.1 (suc m) (omega arith) in
+        let so_many = on.steps in
+        let same : on.count ≡ suc m = omega arith in
+        subst (λ (x : Moment BoardView). watched_at old.set marks x ≡ None)
+        (on.now ∙ ap (stepped (eventless_step (by_view old.set)) old.now) same) (still _ facts.0 facts.1)
+
+-- ---- a stretch
+
+watched-voiced : (set : Parts) (marks : Option (List ℕ)) (all : Accumulators) (now : Moment BoardView)
+    → watched_at set marks (voiced_now set all now) ≡ watched_at set marks now
+watched-voiced set marks all now = λ i.
+    let seen = surroundings-voiced set all now.board i in
+    watched_in seen marks (cpu_step seen now.regs ((by_view set).request now.board))
+
+pub stretch-watched : (old mid : BoardStanding) (limit begun steps : ℕ) (stop : Option Stop) (marks : Option (List ℕ))
+    (met : Option WatchedWrite) (told after : Option (List PastStep)) → BurstsQuietly old (line_end limit old.now.time) mid stop begun
+    → IsNoted (eventless_step (by_view old.set)) (line_end limit old.now.time) old.now mid.now told after
+    → IsWatched old.set marks (eventless_step (by_view old.set)) old.now mid.now.steps met → steps ≡ mid.now.steps
+    → IsWatched old.set marks (step (by_view old.set)) old.now steps met
+stretch-watched old mid limit begun steps stop marks met told after burst bare watched same = record {
+  before = λ n few. alike n (omega arith) ∙ watched.before n (omega arith);
+  last = λ n few. alike n (omega arith) ∙ watched.last n (omega arith);
+  none = λ few. watched.none (omega arith);
+}
+  where
+    alike : (n : ℕ) → old.now.steps + suc n ≤ mid.now.steps
+        → watched_at old.set marks (stepped (step (by_view old.set)) old.now n)
+        ≡ watched_at old.set marks (stepped (eventless_step (by_view old.set)) old.now n)
+    alike n few =
+        let near : line_end limit old.now.time ≤ next_line old.now.time = omega arith in
+        let within = burst-within old mid (line_end limit old.now.time) begun stop told after near burst bare in
+        let so_many = bare.steps in
+        let there = told-at old (line_end limit old.now.time) near burst.tries burst.going burst.quiet n (omega arith) in
+        ap (watched_at old.set marks) (sym there.whole ∙ there.laid.now)
+        ∙ watched-voiced old.set marks (voices_after old (line_end limit old.now.time) near there.laid.count)
+        (burst_at old (line_end limit old.now.time) n).now ∙ ap (watched_at old.set marks) there.bare

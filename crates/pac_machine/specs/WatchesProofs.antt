@@ -1,0 +1,29 @@
+-- For proofs: the board's bus, where each write is looked at.
+use Rattle.std.specs.Prelude.{ℕ, List, Bool, not, is_some, ◌&&◌, Option, None, Some, if◌then◌else◌}
+use Rattle.pac_cpu.specs.Action.{Action, Write, Output}
+use Rattle.pac_map.specs.ContentsProofs.{map_byte_at, map_input_at, map_after_action}
+use Rattle.pac_machine.specs.declared.watch.WatchedBus.{WatchedBus}
+use Rattle.pac_machine.specs.declared.watch.WatchedWrite.{WatchedWrite}
+use Rattle.pac_machine.specs.Stops.{is_stop}
+
+-- the write that is kept once this one has come
+abbrev pub looked_at : WatchedBus → (address byte : ℕ) → Option WatchedWrite
+looked_at bus address byte =
+    if is_stop (Some bus.marks.now) address && not (is_some bus.met)
+    then Some (record { address = address; before = map_byte_at bus.map.now address; written = byte })
+    else bus.met
+
+abbrev pub watched_byte_at : WatchedBus → ℕ → ℕ
+watched_byte_at bus address = map_byte_at bus.map.now address
+
+abbrev pub watched_input_at : WatchedBus → ℕ → ℕ
+watched_input_at bus port = map_input_at bus.map.now port
+
+-- the write that is kept after an action
+abbrev pub met_after : WatchedBus → Action → Option WatchedWrite
+met_after bus (Write address byte) = looked_at bus address byte
+met_after bus (Output port byte) = bus.met
+
+abbrev pub watched_after_action : WatchedBus → Action → WatchedBus
+watched_after_action bus action =
+    record bus { map = record bus.map { now = map_after_action bus.map.now action }; met = met_after bus action }
