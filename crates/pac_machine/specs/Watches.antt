@@ -1,4 +1,4 @@
--- Law: the writes to addresses that are watched, and the first of them that steps meet.
+-- For proofs: the writes to addresses that are watched, and the first of them that steps meet.
 use Rattle.std.specs.Prelude.{◌≡◌, ◌≤◌, ◌+◌, ℕ, suc, List, [], ◌∷◌, ◌++◌, Option, None, Some, if◌then◌else◌}
 use Rattle.pac_cpu.specs.Action.{Action, Write, Output}
 use Rattle.pac_cpu.specs.Step.{Surroundings, CpuStep, Steps, Stops, cpu_step}
