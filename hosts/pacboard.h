@@ -50,6 +50,8 @@ enum {
     PAC_WIDTH = 288,          /* pixels */
     PAC_HEIGHT = 224,         /* pixels */
     PAC_RGBA_SIZE = 258048,   /* a picture: 4 bytes a pixel */
+    PAC_LINES_SIZE = 64512,   /* a picture: a colour number a pixel */
+    PAC_PALETTE_SIZE = 64,    /* the colours of the numbers: 4 bytes each */
     PAC_FRAME_MICROSECONDS = 16500,
     PAC_FRAME_SAMPLES = 1584, /* samples */
     PAC_SAMPLE_RATE = 96000,  /* samples a second */
@@ -318,6 +320,11 @@ uint32_t pac_live_registers(pac_live *live, pac_registers *registers);
  * PAC_LENGTH: `rgba_length` isn't PAC_RGBA_SIZE. */
 uint32_t pac_live_draw(pac_live *live, uint8_t *rgba, size_t rgba_length);
 
+/* Gives the picture as it stands by its colour numbers, 0 to 15: 224 rows from the top, each of 288 from the left. And the colours of the
+ * numbers in their order, each the bytes red, green, blue and 255. `pac_live_draw` draws each number in its colour. PAC_CLOSED.
+ * PAC_LENGTH: `lines_length` isn't PAC_LINES_SIZE, or `palette_length` isn't PAC_PALETTE_SIZE. */
+uint32_t pac_live_lines(pac_live *live, uint8_t *lines, size_t lines_length, uint8_t *palette, size_t palette_length);
+
 /* Writes the board's state file, with the digest of its ROM set in it: as `pac_save`. PAC_CLOSED.
  * PAC_LENGTH: `text_length` isn't PAC_STATE_SIZE. */
 uint32_t pac_live_save(pac_live *live, uint8_t *text, size_t text_length);
@@ -436,6 +443,11 @@ static inline uint32_t pac_live_registers_checked(pac_live *live, pac_registers 
 static inline uint32_t pac_live_draw_checked(pac_live *live, uint8_t *rgba, size_t rgba_length)
 {
     return live && rgba ? pac_live_draw(live, rgba, rgba_length) : (uint32_t)PAC_NULL;
+}
+
+static inline uint32_t pac_live_lines_checked(pac_live *live, uint8_t *lines, size_t lines_length, uint8_t *palette, size_t palette_length)
+{
+    return live && lines && palette ? pac_live_lines(live, lines, lines_length, palette, palette_length) : (uint32_t)PAC_NULL;
 }
 
 static inline uint32_t pac_live_save_checked(pac_live *live, uint8_t *text, size_t text_length)

@@ -40,7 +40,7 @@ typedef struct written {
     int16_t samples[ROOM];
     pac_ran ran;
     pac_until until;
-    uint8_t rgba[PAC_RGBA_SIZE], text[PAC_STATE_SIZE], bytes[PEEKED];
+    uint8_t rgba[PAC_RGBA_SIZE], text[PAC_STATE_SIZE], bytes[PEEKED], lines[PAC_LINES_SIZE], palette[PAC_PALETTE_SIZE];
 } written;
 
 /* A live board and a block, on which the same calls are made, and another live board, which does so by single steps. */
@@ -351,6 +351,31 @@ static void draw_both(pair *it)
     compare(it, "pac_live_draw", code, pac_draw(&it->block, it->roms, PAC_ROMS_SIZE, it->by_block.rgba, length), &handle);
 }
 
+/* The block's colour numbers, and its palette: what pac_draw makes of a line that begins with all numbers. */
+static uint32_t lines_block(pair *it, size_t length, size_t palette_length)
+{
+    static _Thread_local uint8_t rgba[PAC_RGBA_SIZE];
+    pac_board copy = it->block;
+    if (length != PAC_LINES_SIZE || palette_length != PAC_PALETTE_SIZE)
+        return PAC_LENGTH;
+    memcpy(it->by_block.lines, it->block.bytes + PAC_AT_PICTURE, PAC_LINES_SIZE);
+    for (int number = 0; number < PAC_PALETTE_SIZE / 4; number++)
+        copy.bytes[PAC_AT_PICTURE + number] = (uint8_t)number;
+    if (pac_draw(&copy, it->roms, PAC_ROMS_SIZE, rgba, sizeof rgba) == PAC_DONE)
+        memcpy(it->by_block.palette, rgba, PAC_PALETTE_SIZE);
+    return PAC_DONE;
+}
+
+/* A picture by its colour numbers, mostly with the right lengths. */
+static void lines_both(pair *it)
+{
+    pac_live handle = it->live;
+    size_t length = below(it, 6) != 0 ? PAC_LINES_SIZE : below(it, PAC_LINES_SIZE);
+    size_t palette_length = below(it, 6) != 0 ? PAC_PALETTE_SIZE : below(it, PAC_PALETTE_SIZE);
+    uint32_t code = pac_live_lines(&it->live, it->by_live.lines, length, it->by_live.palette, palette_length);
+    compare(it, "pac_live_lines", code, lines_block(it, length, palette_length), &handle);
+}
+
 static void save_both(pair *it)
 {
     pac_live handle = it->live;
@@ -405,7 +430,7 @@ static void call_both(pair *it)
         put_both(it);
         break;
     case 6:
-        draw_both(it);
+        draw_both(it), lines_both(it);
         break;
     case 7:
         save_both(it);
@@ -557,6 +582,7 @@ static void try_closed(pair *it, const char *what, pac_live live)
     is_so &= pac_live_until(&live, UINT32_MAX, it->places, 1, it->by_live.samples, 0, &it->by_live.until) == PAC_CLOSED;
     is_so &= pac_live_peek(&live, 0, it->by_live.bytes, PEEKED) == PAC_CLOSED;
     is_so &= pac_live_draw(&live, it->by_live.rgba, PAC_RGBA_SIZE) == PAC_CLOSED && pac_live_draw(&live, it->by_live.rgba, 1) == PAC_CLOSED;
+    is_so &= pac_live_lines(&live, it->by_live.lines, PAC_LINES_SIZE, it->by_live.palette, PAC_PALETTE_SIZE) == PAC_CLOSED;
     is_so &= pac_live_save(&live, it->by_live.text, PAC_STATE_SIZE) == PAC_CLOSED;
     is_so &= pac_live_load(&live, it->file, PAC_STATE_SIZE) == PAC_CLOSED;
     row(it, what, is_so);
@@ -605,6 +631,7 @@ static void try_null(pair *it)
     is_so &= pac_live_until_checked(&it->live, 1, NULL, 0, it->by_live.samples, ROOM, &it->by_live.until) == PAC_NULL;
     is_so &= pac_live_until_checked(&it->live, 1, it->places, 0, it->by_live.samples, ROOM, NULL) == PAC_NULL;
     is_so &= pac_live_peek_checked(&it->live, 0, NULL, 0) == PAC_NULL && pac_live_draw_checked(&it->live, NULL, PAC_RGBA_SIZE) == PAC_NULL;
+    is_so &= pac_live_lines_checked(&it->live, it->by_live.lines, PAC_LINES_SIZE, NULL, PAC_PALETTE_SIZE) == PAC_NULL;
     is_so &= pac_live_save_checked(&it->live, NULL, 0) == PAC_NULL && pac_live_load_checked(&it->live, NULL, 0) == PAC_NULL;
     row(it, "a pointer that is null", is_so);
     row(it, "no pointer that is null", pac_live_hold_checked(&it->live, 0, 0) == PAC_DONE);

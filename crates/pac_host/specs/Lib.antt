@@ -12,6 +12,7 @@ pub mod LiveSteps
 pub mod LiveUntil
 pub mod LiveUntils
 pub mod LiveLook
+pub mod LiveLines
 pub mod LiveFiles
 pub mod LiveLaws
 pub mod HostLaws

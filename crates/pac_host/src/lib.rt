@@ -9,6 +9,7 @@ ghost use Rattle.pac_host.specs.Codes.{Answers};
 ghost use Rattle.pac_host.specs.Host as host;
 ghost use Rattle.pac_host.specs.Live as live_specs;
 ghost use Rattle.pac_host.specs.LiveFiles as live_files_specs;
+ghost use Rattle.pac_host.specs.LiveLines as live_lines_specs;
 ghost use Rattle.pac_host.specs.LiveLook as live_look_specs;
 ghost use Rattle.pac_host.specs.LiveMemory.{live_size};
 ghost use Rattle.pac_host.specs.LiveStep as live_step_specs;
@@ -25,6 +26,7 @@ pub mod laws;
 mod live;
 mod live_calls;
 mod live_files;
+mod live_lines;
 mod live_look;
 mod live_step;
 mod live_time;
@@ -281,6 +283,17 @@ pub extern "C" fn pac_live_draw(live: &mut PacLive, rgba: &mut [u8]) -> u32
         answer live.old live.new) result }
 {
     code(live_look::draw(live, rgba))
+}
+
+/// Gives the picture as it stands by its colour numbers, 0 to 15: 224 rows from the top, each of 288 from the left. And the colours of the
+/// numbers in their order, each the bytes red, green, blue and 255. `pac_live_draw` draws each number in its colour. `Closed`.
+/// `WrongLength`: `lines` hasn't 64,512 bytes, or `palette` hasn't 64 bytes.
+#[unsafe(no_mangle)]
+pub extern "C" fn pac_live_lines(live: &mut PacLive, lines: &mut [u8], palette: &mut [u8]) -> u32
+    ensures { Answers (λ answer. live_specs.Lives ((lines.new ≡ lines.old) × (palette.new ≡ palette.old))
+        (live_lines_specs.GivingLines lines.old lines.new palette.old palette.new) answer live.old live.new) result }
+{
+    code(live_lines::lines(live, lines, palette))
 }
 
 /// Writes the board's state file, with the digest of its ROM set in it: as `pac_save`. `Closed`.
