@@ -212,11 +212,11 @@ module _ {S : Type 0} (to : Giving S) (old : CourseValue) (sink : S) where
       let meets : next_in old w.now ≡ Ends stop
       = ap (next_in old) (sym here) ∙ ap (λ (course : CourseValue). next_in course new.board.state.now) (sym under.course)
       ∙ went.ending.1 in
-      let step = going-steps (next_in old) (end_of old) w (open-goes-on (end_of old) w on.open_yet soon) ∙ ap (walk_after_step w) meets in
+      let onward = going-steps (next_in old) (end_of old) w (open-goes-on (end_of old) w on.open_yet soon) ∙ ap (walk_after_step w) meets in
       let whole =
-      sym step
+      sym onward
       ∙ ended-whole (next_in old) (end_of old) (timely old) first_now (suc on.steps)
-      (stopped-has-ended (end_of old) (walked (suc on.steps)) stop (ap (λ (w : Walk BoardView). w.stop) step)) in
+      (stopped-has-ended (end_of old) (walked (suc on.steps)) stop (ap (λ (w : Walk BoardView). w.stop) onward)) in
       record {
         course = on.course ∙ ap (course_after old) whole;
         stop_is = ap (λ (w : Walk BoardView). w.stop) whole;

@@ -286,28 +286,28 @@ module _ {S : Type 0} (to : Giving S) (old : SessionValue) (motion : Motion) (si
     pub underway-refused : (new : SessionValue) (later : S) → has_met s motion from s.index ≡ false
         → IsStrideRefused to s motion from taker new later → IsTravelRefused to old motion sink new later
     underway-refused new later unmet one =
-        let held = one.held in
+        let refusal = one.held in
         let after = under.after in
         let fresh = one.fresh in
-        let index = held.index in
-        let since = held.after in
+        let index = refusal.index in
+        let since = refusal.after in
         let first : s.furthest ≡ max old.furthest s.index = ap (λ (t : SessionValue). t.furthest) under.session in
         let before = outputs_between old.setting old.furthest s.furthest in
         record {
-          last = held.last;
-          index = held.index;
+          last = refusal.last;
+          index = refusal.index;
           fresh = omega arith;
-          restless = λ earlier from less. restless-on unmet new held.leap earlier from (omega arith);
-          session = held.session
+          restless = λ earlier from less. restless-on unmet new refusal.leap earlier from (omega arith);
+          session = refusal.session
               ∙ ap (λ (t : SessionValue). record t { due = new.due }) (moved-on new.index (omega arith));
           cut =
               cut-along (sym (given-on new.index (omega arith))) refl
               (cut-after before sink taker later under.sink_is
-              (cut-along (ap (λ n. outputs_between s.setting n new.index) (sym fresh)) refl held.cut));
+              (cut-along (ap (λ n. outputs_between s.setting n new.index) (sym fresh)) refl refusal.cut));
           of_last =
-              subst (λ xs. IsPrefix xs (before ++ held.cut.taken)) (given-on held.last (omega arith))
-              (prefix-after before (outputs_between s.setting s.furthest held.last) held.cut.taken
-              (subst (λ n. IsPrefix (outputs_between s.setting n held.last) held.cut.taken) fresh held.of_last));
+              subst (λ xs. IsPrefix xs (before ++ refusal.cut.taken)) (given-on refusal.last (omega arith))
+              (prefix-after before (outputs_between s.setting s.furthest refusal.last) refusal.cut.taken
+              (subst (λ n. IsPrefix (outputs_between s.setting n refusal.last) refusal.cut.taken) fresh refusal.of_last));
         }
 
     -- the steps take of the time that is left

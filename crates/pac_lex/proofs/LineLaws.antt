@@ -60,8 +60,8 @@ first-token line kind len h = record { parts = sym (take-append-drop len (after_
 
 token-before : (line : List ℕ) (kind : TokenKind) (len : ℕ) → IsFound (after_gap line) kind len → IsEither (drop len (after_gap line))
     → IsEither line
-token-before line kind len h (inl (tokens, reads)) =
-    inl (cut_token kind len (after_gap line) ∷ tokens, (drop len (after_gap line), first-token line kind len h, reads))
+token-before line kind len h (inl (tokens, made)) =
+    inl (cut_token kind len (after_gap line) ∷ tokens, (drop len (after_gap line), first-token line kind len h, made))
 token-before line kind len h (inr (tokens, fault, breaks)) =
     inr (cut_token kind len (after_gap line) ∷ tokens, fault, (drop len (after_gap line), first-token line kind len h, breaks))
 
@@ -110,7 +110,7 @@ whole : (line : List ℕ) → ((tokens : List Lexeme) × IsRead line tokens) ⊎
 whole line = elim (cases_lt 255 (length line)) [
   | inl long ↦ inr (LongLine, long)
   | inr short ↦ elim (is-either (suc (length line)) line (omega arith)) [
-    | inl (tokens, reads) ↦ inl (tokens, (short, reads))
+    | inl (tokens, made) ↦ inl (tokens, (short, made))
     | inr (tokens, fault, breaks) ↦ inr (fault, has-fault line tokens fault short breaks)
   ]
 ]

@@ -75,18 +75,18 @@ impl Watch for Unwatched {
 
 /// The addresses of a map are watched.
 #[derive(Drop)]
-pub struct Watching<'a> {
+pub struct WatchedAddresses<'a> {
     marks: &'a Marks,
     met: Option<WatchedWrite>,
 }
 
-impl<'a> Watching<'a> {
+impl<'a> WatchedAddresses<'a> {
     /// Watches the addresses that a map marks; no write was met yet.
-    pub fn new(marks: &'a Marks) -> Watching<'a>
+    pub fn new(marks: &'a Marks) -> WatchedAddresses<'a>
         ensures marks { result.marks.now ≡ marks.now }
         ensures met { result.met ≡ None }
     {
-        Watching { marks, met: None }
+        WatchedAddresses { marks, met: None }
     }
 
     /// The first write to one of them that was met.
@@ -97,7 +97,7 @@ impl<'a> Watching<'a> {
     }
 }
 
-impl Watch for Watching<'_> {
+impl Watch for WatchedAddresses<'_> {
     ghost marks = { λ watching. Some watching.marks.now };
 
     ghost met = { λ watching. watching.met };
