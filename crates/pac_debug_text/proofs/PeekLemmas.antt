@@ -1,5 +1,5 @@
 -- Bytes, rows and instructions one after another.
-use Rattle.std.proofs.Common.{◌≡◌, ℕ, suc, ◌+◌, ◌-◌, ◌/◌, ◌<◌, List, [], ◌++◌, sym, ap, ◌∙◌, arith}
+use Rattle.std.proofs.Common.{◌≡◌, ℕ, ◌+◌, ◌-◌, ◌<◌, List, [], ◌++◌, ap, rules}
 use Rattle.std.specs.Prelude.{min}
 use Rattle.std.specs.List.{flat_map}
 use Rattle.pac_dis.specs.Numbers.{wrapped_address}
@@ -14,9 +14,7 @@ bytes_text byte at count = flat_map spaced_byte (bytes_from byte at count)
 pub bytes-more : (byte : ℕ → ℕ) (at count done shown : ℕ) → done < count → shown ≡ byte at
     → bytes_text byte at (count - done) ≡ spaced_byte shown ++ bytes_text byte (wrapped_address (at + 1)) (count - (done + 1))
 unfolding bytes_from
-bytes-more byte at count done shown some seen =
-    let one : count - done ≡ suc (count - (done + 1)) = omega (arith, some) in
-    ap (bytes_text byte at) one ∙ ap (λ b. spaced_byte b ++ bytes_text byte (wrapped_address (at + 1)) (count - (done + 1))) (sym seen)
+bytes-more byte at count done shown some seen = search rules
 
 pub bytes-none : (byte : ℕ → ℕ) (at left : ℕ) → left ≡ 0 → bytes_text byte at left ≡ []
 unfolding bytes_from
@@ -25,13 +23,7 @@ bytes-none byte at left is = ap (bytes_text byte at) is
 pub rows-more : (byte : ℕ → ℕ) (at left shown : ℕ) → 0 < left → shown ≡ min left memory_row_bytes
     → memory_text byte at left ≡ row_text byte at shown ++ memory_text byte (wrapped_address (at + memory_row_bytes)) (left - shown)
 unfolding rows_text
-rows-more byte at left shown some seen =
-    let one : (left + (memory_row_bytes - 1)) / memory_row_bytes
-    ≡ suc ((left - memory_row_bytes + (memory_row_bytes - 1)) / memory_row_bytes) = omega (arith, some) in
-    let fewer : left - memory_row_bytes ≡ left - shown = omega (arith, seen) in
-    ap (λ rows. rows_text byte rows at left) one
-    ∙ ap (λ n. row_text byte at n ++ memory_text byte (wrapped_address (at + memory_row_bytes)) (left - memory_row_bytes)) (sym seen)
-    ∙ ap (λ n. row_text byte at shown ++ memory_text byte (wrapped_address (at + memory_row_bytes)) n) fewer
+rows-more byte at left shown some seen = search rules
 
 pub rows-none : (byte : ℕ → ℕ) (at left : ℕ) → left ≡ 0 → memory_text byte at left ≡ []
 unfolding rows_text
@@ -41,10 +33,7 @@ pub instructions-more : (byte : ℕ → ℕ) (at count done : ℕ) (code : List 
     → instructions_text byte (count - done) at
     ≡ line_text at code ++ instructions_text byte (count - (done + 1)) (wrapped_address (at + size_at code))
 unfolding instructions_text
-instructions-more byte at count done code some seen =
-    let one : count - done ≡ suc (count - (done + 1)) = omega (arith, some) in
-    ap (λ n. instructions_text byte n at) one
-    ∙ ap (λ shown. line_text at shown ++ instructions_text byte (count - (done + 1)) (wrapped_address (at + size_at shown))) (sym seen)
+instructions-more byte at count done code some seen = search rules
 
 pub instructions-none : (byte : ℕ → ℕ) (at left : ℕ) → left ≡ 0 → instructions_text byte left at ≡ []
 unfolding instructions_text

@@ -1,4 +1,4 @@
-use Rattle.std.proofs.Common.{List, ℕ, ◌+◌, drop, subst, ap}
+use Rattle.std.proofs.Common.{List, ℕ, ◌+◌, drop, subst, ap, arith}
 use Rattle.std.proofs.lemmas.List.{drop_more}
 use Rattle.std.proofs.lemmas.Result.{err_from_is_err_and}
 use Rattle.std.specs.List.{flat_map}
@@ -17,10 +17,4 @@ returns-in_err-gather_past_step g c =
     rw (p.1, p.2) (leaves-refused _ (flat_map past_step_text (drop (i + 1) steps)) leaves c.in_err-gather_past_step.ensures)
 
 pub loop-step-preserved : goal.loop-step-preserved
-loop-step-preserved g c =
-    let steps = c.args.steps.now in
-    let i = c.loop-step.step-index in
-    let first = ap (flat_map past_step_text) (drop_more steps i _ c.loop-step-test.true) in
-    let leaves = subst (λ (rest : List ℕ). Leaves g.W.Out.took c.args.pending.now c.args.output.now (flat_map past_step_text steps) rest
-    c.loop-step.pending c.loop-step.output) first c.loop-step.invariant in
-    leaves-less _ (flat_map past_step_text (drop (i + 1) steps)) leaves c.in_ok-gather_past_step.ensures
+loop-step-preserved g c = grind (arith, Leaves, drop_more, leaves-less)

@@ -8,8 +8,7 @@ use Rattle.pac_debug_text.proofs.registers.gather_registers.Goals as goal
 pub returns-in_err-gather_pairs : goal.returns-in_err-gather_pairs
 returns-in_err-gather_pairs g c =
     let regs = c.args.regs.now in
-    let fourth = latches_text c.args.latches ++ [] in
-    let third = interrupts_text regs ++ fourth in
+    let third = interrupts_text regs ++ (latches_text c.args.latches ++ []) in
     let second = alternate_text regs.alternate ++ third in
     let p = err_from_is_err_and c.from_residual.result c.from_residual.ensures.1 in
     rw (p.1, p.2) (gathers-within g.W.Out.refused c.args.pending.now (pairs_text regs) second c.in_err-gather_pairs.ensures)
@@ -17,8 +16,7 @@ returns-in_err-gather_pairs g c =
 pub returns-in_err-gather_alternate : goal.returns-in_err-gather_alternate
 returns-in_err-gather_alternate g c =
     let regs = c.args.regs.now in
-    let fourth = latches_text c.args.latches ++ [] in
-    let third = interrupts_text regs ++ fourth in
+    let third = interrupts_text regs ++ (latches_text c.args.latches ++ []) in
     let second = alternate_text regs.alternate ++ third in
     let one = leaves-less (pairs_text regs) second (leaves-all (registers_text regs c.args.latches)) c.in_ok-gather_pairs.ensures in
     let p = err_from_is_err_and c.from_residual-in_err-gather_alternate.result c.from_residual-in_err-gather_alternate.ensures.1 in
