@@ -8,9 +8,6 @@ use Rattle.pac_state.specs.declared.fault.LoadFault.{LoadFault}
 use Rattle.pac_state.specs.declared.fault.LoadFault.TheVariants.{NoState, OtherVersion, Size, OutOfRange, Damaged, OtherSet, NoMemory}
 use Rattle.pac_host.specs.declared.codes.HostFault.{HostFault}
 use Rattle.pac_host.specs.declared.codes.HostFault.TheVariants.{WrongLength, NoBoard, TooLong, NoRoom, NoFile, Closed}
-use Rattle.pac_host.specs.declared.live_until.Ended.{Ended}
-use Rattle.pac_host.specs.declared.live_until.Ended.TheVariants.{TimeOver, AtPlace, AtStop, BufferFull}
-use Rattle.pac_host.specs.declared.live_until.PacUntil.{PacUntil}
 use Rattle.pac_host.specs.declared.ran.PacRan.{PacRan}
 
 -- ---- what a call answers
@@ -85,25 +82,3 @@ ran_bytes ran =
     to_le_bytes w64 ran.ticks
     ++ to_le_bytes w32 ran.samples ++ to_le_bytes w32 ran.pictures ++ to_le_bytes w32 ran.stop
     ++ to_le_bytes w16 ran.pc ++ ran.bytes ++ ran.vector ∷ ran.zero ∷ 0 ∷ 0 ∷ 0 ∷ 0 ∷ []
-
--- ---- how a run is told that something may end
-
-abbrev pub ended_number : Ended → ℕ
-ended_number TimeOver = 1
-ended_number AtPlace = 2
-ended_number AtStop = 3
-ended_number BufferFull = 4
-
--- what is told of the run, why it ended, and where the board is then
-abbrev pub until_of : PacRan → Ended → (pc : ℕ) → PacUntil
-until_of ran ended pc = record {
-  ticks = ran.ticks;
-  samples = ran.samples;
-  pictures = ran.pictures;
-  why = ended_number ended;
-  stop = ran.stop;
-  pc = pc;
-  bytes = ran.bytes;
-  vector = ran.vector;
-  zero = ran.zero;
-}

@@ -234,6 +234,132 @@ pub extern "C" fn pac_live_step(live: &mut PacLive, samples: &mut [i16], ran: &m
     code(live_step::step(live, samples, ran))
 }
 
+/// Goes on until so many T-states are over from now, and at most 22 longer; or the board is before an address of the set; or a step wrote to a
+/// watched address, or read there as data; or the board can't go on; or the buffer has no room for the next sample. `ran.why` tells which of
+/// these. `places` has 65,536 bytes, one for each address, which isn't 0 where it is in the set; or none, and then no address is. `watched` has
+/// 65,536 bytes, too: 1 where writes to the address are watched, also of the byte that is there, 2 where reads of it are, 3 where both are; or
+/// none. A step that does both is told as a write. Addresses are as the program writes them: the mirrors of a cell are others. Where there is
+/// time, one step at least is done, so that the board goes on from an address that it is at. The samples go to the head of `samples`. What had
+/// no room stays due, in the block, too, and the next call gives it first: that call then goes on as this one would have, and ends at once
+/// where the board is at an address of the set. Without any room a board goes on up to the step that gives a sample, and then no further. What
+/// was asked in all stays, so `pac_live_exec` goes on from there to the time that it would have gone to.
+/// `Closed`. `TooLong`: the time would pass 2^52 T-states. `WrongLength`: `places` or `watched` has neither 65,536 bytes nor none.
+#[unsafe(no_mangle)]
+pub extern "C" fn pac_live_until(
+    live: &mut PacLive,
+    ticks: u32,
+    places: &[u8],
+    watched: &[u8],
+    samples: &mut [i16],
+    ran: &mut PacUntil,
+) -> u32
+    ensures { Answers (λ answer. live_specs.Lives ((samples.new ≡ samples.old) × (ran.new ≡ ran.old))
+        (live_until_specs.Going ticks places.now watched.now samples.old samples.new ran.old ran.new)
+        answer live.old live.new) result }
+{
+    code(live_until::until(live, ticks, places, watched, samples, ran))
+}
+
+/// Writes what the processor would read at as many addresses as `bytes` has room for, the first of which is `address`; after FFFFH comes
+/// 0000H. What it would read of a port has the inputs and the switches as they are.
+/// `WrongLength`: `roms` hasn't 25,120 bytes. `NoBoard`.
+#[unsafe(no_mangle)]
+pub extern "C" fn pac_peek(board: &PacBoard, roms: &[u8], address: u16, bytes: &mut [u8]) -> u32
+    ensures { Answers (λ answer. host.Peeks roms.now board.now.bytes address bytes.old answer bytes.new) result }
+{
+    code(peek::peek(board, roms, address, bytes))
+}
+
+/// The bytes of memory that a live board takes.
+#[unsafe(no_mangle)]
+pub extern "C" fn pac_live_size() -> usize
+    ensures { result ≡ live_size }
+{
+    live_calls::size()
+}
+
+/// Opens a handle: its memory becomes the board at power-on, with these ROMs and the byte of the DIP switches. A board that lay there before
+/// is gone.
+/// `WrongLength`: `roms` hasn't 25,120 bytes, or `live->size` is less than `pac_live_size()`.
+#[unsafe(no_mangle)]
+pub extern "C" fn pac_live_open(live: &mut PacLive, roms: &[u8], switches: u8) -> u32
+    ensures { Answers (λ answer. live_specs.OpensLive roms.now switches answer live.old live.new) result }
+{
+    code(live_calls::open(live, roms, switches))
+}
+
+/// Closes a handle: its memory is the host's, which may open it again. `Closed`.
+#[unsafe(no_mangle)]
+pub extern "C" fn pac_live_close(live: &mut PacLive) -> u32
+    ensures { Answers (λ answer. live_specs.Closes answer live.old live.new) result }
+{
+    code(live_calls::close(live))
+}
+
+/// Becomes the board of a block and ROMs. `Closed`.
+/// `WrongLength`: `roms` hasn't 25,120 bytes. `NoBoard`.
+#[unsafe(no_mangle)]
+pub extern "C" fn pac_live_put(live: &mut PacLive, roms: &[u8], board: &PacBoard) -> u32
+    ensures { Answers (λ answer. live_specs.Lives (Unit {0}) (live_specs.Putting roms.now board.now.bytes) answer live.old live.new) result }
+{
+    code(live_calls::put(live, roms, board))
+}
+
+/// Writes the board's block, whatever `board` was before: a snapshot, which any call of a block and `pac_live_put` take. `Closed`.
+#[unsafe(no_mangle)]
+pub extern "C" fn pac_live_give(live: &mut PacLive, board: &mut PacBoard) -> u32
+    ensures { Answers (λ answer. live_specs.Lives (board.new.bytes ≡ board.old.bytes) (live_specs.GivingBlock board.new.bytes)
+        answer live.old live.new) result }
+{
+    code(live_calls::give(live, board))
+}
+
+/// What the watchdog does: as `pac_reset`. `Closed`.
+#[unsafe(no_mangle)]
+pub extern "C" fn pac_live_reset(live: &mut PacLive) -> u32
+    ensures { Answers (λ answer. live_specs.Lives (Unit {0}) (live_specs.Becoming board_after_reset) answer live.old live.new) result }
+{
+    code(live_calls::reset(live))
+}
+
+/// Lets the inputs of `clear` go, and then holds those of `set`: as `pac_hold`. `Closed`.
+#[unsafe(no_mangle)]
+pub extern "C" fn pac_live_hold(live: &mut PacLive, set: u16, clear: u16) -> u32
+    ensures { Answers (λ answer. live_specs.Lives (Unit {0}) (live_specs.Becoming (host.board_holding set clear))
+        answer live.old live.new) result }
+{
+    let set = Inputs::from_bits_retain(set);
+    let clear = Inputs::from_bits_retain(clear);
+    code(live_calls::hold(live, set, clear))
+}
+
+/// Lets so many microseconds go by: as `pac_exec`. `Closed`. `TooLong`. `NoRoom`, as there.
+#[unsafe(no_mangle)]
+pub extern "C" fn pac_live_exec(
+    live: &mut PacLive,
+    microseconds: u32,
+    samples: &mut [i16],
+    ran: &mut RanBytes,
+) -> u32
+    ensures { Answers (λ answer. live_specs.Lives ((samples.new ≡ samples.old) × (ran.new.bytes ≡ ran.old.bytes))
+        (live_time_specs.Executing microseconds samples.old samples.new ran.old.bytes ran.new.bytes)
+        answer live.old live.new) result }
+{
+    code(live_time::exec(live, microseconds, samples, ran))
+}
+
+/// Does exactly one step: an instruction, one round of a repeating one, a halted step or an interrupt's acceptance. Its samples go to the head
+/// of `samples`, and what was done to `ran`. Where the board stops, no step is done, and `ran.stop` tells why. What was asked in all stays, so
+/// `pac_live_exec` goes on from there to the time that it would have gone to. `Closed`. `TooLong`.
+/// `NoRoom`: room for 2 samples is always enough.
+#[unsafe(no_mangle)]
+pub extern "C" fn pac_live_step(live: &mut PacLive, samples: &mut [i16], ran: &mut RanBytes) -> u32
+    ensures { Answers (λ answer. live_specs.Lives ((samples.new ≡ samples.old) × (ran.new.bytes ≡ ran.old.bytes))
+        (live_step_specs.Stepping samples.old samples.new ran.old.bytes ran.new.bytes) answer live.old live.new) result }
+{
+    code(live_step::step(live, samples, ran))
+}
+
 /// Goes on until so many T-states are over from now, and at most 22 longer; or the board is before an address of the set; or it can't go on; or
 /// the buffer has no room for the next sample. `ran.why` tells which of these: of the first two the address. `places` has 65,536 bytes, one for
 /// each address, which isn't 0 where it is in the set; or none, and then no address is. Where there is time, one step at least is done, so that
