@@ -66,7 +66,7 @@ static inline uint64_t machine_time(machine *it)
 static inline uint32_t machine_until(machine *it, uint64_t time, const uint8_t *places, int16_t *samples, size_t capacity, pac_until *ran)
 {
     uint64_t now = machine_time(it);
-    return pac_live_until(&it->live, time > now ? (uint32_t)(time - now) : 0, places, MACHINE_PLACES, samples, capacity, ran);
+    return pac_live_until(&it->live, time > now ? (uint32_t)(time - now) : 0, places, MACHINE_PLACES, places, 0, samples, capacity, ran);
 }
 
 #endif

@@ -50,17 +50,16 @@ pub struct PacUntil {
     pub pc: u16,
     /// The watched address that the last step wrote to or read.
     pub address: u16,
-    /// The bytes from `pc` on at a stop.
-    pub bytes: [u8; 4],
+    /// What it did there: 1 where it wrote, 2 where it read, 0 where it did neither; then `address`, `before` and `after` are 0.
+    pub access: u8,
+    /// What a read there gave right before a write; of a read what it gives now.
+    pub before: u8,
+    /// The byte that was written; of a read what it gives now.
+    pub after: u8,
     /// The interrupt vector where that is the reason of a stop, and else 0.
     pub vector: u8,
-    /// What the last step did at `address`: 1 where it wrote there, 2 where it read there, and 0 where it did neither; then `address`,
-    /// `before` and `after` are 0.
-    pub access: u8,
-    /// What a read at `address` gave right before it was written.
-    pub before: u8,
-    /// The byte that was written; of a read this and `before` are what a read there gives now.
-    pub after: u8,
+    /// The bytes from `pc` on at a stop.
+    pub bytes: [u8; 4],
     /// 0.
     pub zero: u32,
 }
@@ -112,11 +111,11 @@ fn until_told(ran: &PacRan, ended: Ended, met: Option<Access>, board: &Board) ->
         stop: ran.stop,
         pc: board.regs().pc,
         address,
-        bytes: ran.bytes,
-        vector: ran.vector,
         access,
         before,
         after,
+        vector: ran.vector,
+        bytes: ran.bytes,
         zero: 0,
     }
 }
