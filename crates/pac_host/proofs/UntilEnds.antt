@@ -27,13 +27,13 @@ use Rattle.pac_board.specs.Stops.{is_stop}
 use Rattle.pac_board.specs.Trails.{stepped}
 use Rattle.pac_host.specs.declared.live_until.Ended.{Ended}
 use Rattle.pac_host.specs.declared.live_until.Ended.TheVariants.{TimeOver, AtPlace, AtStop, BufferFull}
-use Rattle.pac_host.specs.declared.sounds.Sounds.{Sounds}
+use Rattle.pac_block.specs.declared.sounds.Sounds.{Sounds}
 use Rattle.pac_host.specs.declared.live_until.PacUntil.{PacUntil}
 use Rattle.pac_host.specs.LiveUntil.{EndsBy, HasComeTo, IsGoneOn, PassesPlaces, WentBy}
 use Rattle.pac_host.specs.LiveUntils.{IsGone, WalksOn, WalksBy}
-use Rattle.pac_host.specs.Sounding.{sounding_took, sounding_refused}
+use Rattle.pac_block.specs.Sounding.{sounding_took, sounding_refused}
 use Rattle.pac_host.proofs.LiveSteps.{at-most-one}
-use Rattle.pac_host.proofs.Sounding.{are-written, due-pictures, due-sounds, pictures-append, sounds-append}
+use Rattle.pac_block.proofs.Sounding.{are-written, due-pictures, due-sounds, pictures-append, sounds-append}
 
 -- ---- steps of a walk
 

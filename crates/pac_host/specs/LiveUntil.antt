@@ -9,13 +9,14 @@ use Rattle.pac_board.specs.Step.{step}
 use Rattle.pac_board.specs.Stop.{Stop}
 use Rattle.pac_board.specs.Trace.{by_view}
 use Rattle.pac_board.specs.Walk.{Walk, walk, walk_to}
-use Rattle.pac_host.specs.declared.codes.HostFault.{HostFault}
-use Rattle.pac_host.specs.declared.codes.HostFault.TheVariants.{WrongLength, TooLong}
+use Rattle.pac_block.specs.declared.codes.HostFault.{HostFault}
+use Rattle.pac_block.specs.declared.codes.HostFault.TheVariants.{WrongLength, TooLong}
 use Rattle.pac_host.specs.declared.live_until.Ended.{Ended}
 use Rattle.pac_host.specs.declared.live_until.Ended.TheVariants.{TimeOver, AtPlace, AtStop, BufferFull}
 use Rattle.pac_host.specs.declared.live_until.PacUntil.{PacUntil}
-use Rattle.pac_host.specs.Codes.{ran_of, until_of}
-use Rattle.pac_host.specs.Host.{samples_given}
+use Rattle.pac_block.specs.Codes.{ran_of}
+use Rattle.pac_host.specs.LiveCodes.{until_of}
+use Rattle.pac_block.specs.Host.{samples_given}
 use Rattle.pac_host.specs.Live.{BoardCall}
 
 -- ---- a set of addresses: a byte for each, which isn't 0 where it is in the set; or no byte, and then none is

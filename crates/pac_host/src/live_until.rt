@@ -3,17 +3,17 @@
 ghost use Rattle.std.specs.Prelude.{◌≡◌, ◌≤◌, ◌+◌, ◌^◌, ◌&&◌, []};
 ghost use Rattle.pac_board.specs.State.{due_outputs, latest, latest_end};
 ghost use Rattle.pac_board.specs.Stops.{is_stop};
-ghost use Rattle.pac_host.specs.Codes as codes;
+ghost use Rattle.pac_host.specs.LiveCodes as codes;
 ghost use Rattle.pac_host.specs.Live as live_specs;
 ghost use Rattle.pac_host.specs.LiveUntil as live_until;
 ghost use Rattle.pac_host.specs.LiveUntils.{OpensSet, HasLimit, WalksOn, IsGone};
 
-use crate::codes::HostFault;
 use crate::live::PacLive;
 use crate::live_calls::check_open;
-use crate::ran::{PacRan, told};
-use crate::roms::chunk;
-use crate::sounds::Sounds;
+use pac_block::ran::told;
+use pac_block::roms::chunk;
+use pac_block::sounds::Sounds;
+use pac_block::{HostFault, PacRan};
 use pac_board::{Board, LATEST, Stop, Stops, Trail};
 use std::mem::forget;
 
