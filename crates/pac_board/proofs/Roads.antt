@@ -18,7 +18,7 @@ use Rattle.pac_machine.specs.Watches.{IsWatched}
 use Rattle.pac_machine.specs.Stops.{is_stop}
 use Rattle.pac_machine.specs.StopsProofs.{PassesBy}
 use Rattle.pac_machine.proofs.Passing.{passes-more}
-use Rattle.pac_machine.proofs.Watched.{watched-more}
+use Rattle.pac_machine.proofs.Watched.{watched-first, watched-more}
 use Rattle.pac_board.specs.Roads.{IsHeld, HasGoneWatching, GoesWatching}
 use Rattle.pac_board.specs.RoadsProofs.{BoardPasses, BoardWatched}
 use Rattle.pac_board.specs.Sinks.{TookAll}
@@ -158,6 +158,13 @@ pub record HasPassed (limit : ℕ) (stops marks : Option (List ℕ)) (old new : 
   pub told : IsTold old limit new told after
   pub passes : BoardPasses stops old new
   pub watched : BoardWatched marks old new met
+
+-- without a step they did nothing there
+pub met-nothing : (marks : Option (List ℕ)) (old new : BoardValue) (met : Option Access) → new.state.now.steps ≡ old.state.now.steps
+    → met ≡ None → BoardWatched marks old new met
+met-nothing marks old new met steps none =
+    subst (λ (met : Option Access). BoardWatched marks old new met) (sym none)
+    (watched-first old.set marks (step (by_view old.set)) old.state.now new.state.now.steps steps)
 
 -- a stretch after others
 pub passed-further : {limit : ℕ} {stops marks marks_there : Option (List ℕ)} {old mid new : BoardValue} {met : Option Access}

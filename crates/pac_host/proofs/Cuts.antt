@@ -23,15 +23,15 @@ use Rattle.pac_board.specs.Walk.{Walk, walk_to}
 use Rattle.pac_host.specs.declared.live_until.Ended.{Ended}
 use Rattle.pac_host.specs.declared.live_until.Ended.TheVariants.{TimeOver, AtPlace, AtStop, BufferFull, AtAccess}
 use Rattle.pac_host.specs.declared.live_until.PacUntil.{PacUntil}
-use Rattle.pac_host.specs.declared.ran.PacRan.{PacRan}
+use Rattle.pac_block.specs.declared.ran.PacRan.{PacRan}
 use Rattle.pac_host.specs.CutLaws.{TimeCall, GoUntil, MakeStep, PassTime, asked_by, GiveInTime, AnyCutsAreOneTime}
-use Rattle.pac_host.specs.Host.{board_after_exec, samples_given, state_left}
+use Rattle.pac_block.specs.Host.{board_after_exec, samples_given, state_left}
 use Rattle.pac_host.specs.LiveStep.{HasStepped, outputs_of_one}
 use Rattle.pac_host.specs.LiveTime.{HasRunOn}
 use Rattle.pac_host.specs.LiveUntil.{HasGoneFor, HasComeTo, HasFilled, WentBy}
-use Rattle.pac_host.proofs.Sounding.{samples-append}
-use Rattle.pac_host.proofs.Stops.{left-in-parts}
-use Rattle.pac_host.proofs.TimeParts.{head-is, told-samples}
+use Rattle.pac_block.proofs.Sounding.{samples-append}
+use Rattle.pac_block.proofs.Stops.{left-in-parts}
+use Rattle.pac_block.proofs.TimeParts.{head-is, told-samples}
 
 -- ---- on the way of a run
 

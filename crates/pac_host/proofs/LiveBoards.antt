@@ -3,7 +3,7 @@ use Rattle.std.proofs.Common.{Ok, refl, sym, ap, ◌∙◌, inl, inr}
 use Rattle.pac_board.specs.State.{BoardValue, power_on_board}
 use Rattle.pac_state.specs.Files.{board_of_file}
 use Rattle.pac_host.specs.declared.live.PacLive.{PacLive}
-use Rattle.pac_host.specs.HostLaws.{PowerOn, ResetNow, HoldInputs, LetTimePass, TakeFile}
+use Rattle.pac_block.specs.HostLaws.{PowerOn, ResetNow, HoldInputs, LetTimePass, TakeFile}
 use Rattle.pac_host.specs.Live.{BoardCall, IsMadeOn, Lives}
 use Rattle.pac_host.specs.LiveLaws.{LiveCallsAreOfOneBoard}
 

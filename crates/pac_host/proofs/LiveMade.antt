@@ -1,7 +1,7 @@
 -- A call on the board of an open handle.
 use Rattle.std.proofs.Common.{◌≡◌, Result, ap, subst, ◌∙◌, inl}
 use Rattle.pac_board.specs.State.{BoardValue}
-use Rattle.pac_host.specs.declared.codes.HostFault.{HostFault}
+use Rattle.pac_block.specs.declared.codes.HostFault.{HostFault}
 use Rattle.pac_host.specs.declared.live.PacLive.{PacLive}
 use Rattle.pac_host.specs.Handle.{live_with_board}
 use Rattle.pac_host.specs.Live.{BoardCall, Lives}

@@ -1,10 +1,10 @@
 -- A call for some time on a board: why it isn't done.
 use Rattle.std.proofs.Common.{◌≡◌, ◌≤◌, ◌<◌, ◌+◌, ◌-◌, ◌^◌, min, ℕ, ℤ, List, length, Err, subst}
 use Rattle.pac_board.specs.State.{BoardState, BoardValue, most_asked}
-use Rattle.pac_host.specs.declared.codes.HostFault.{HostFault}
-use Rattle.pac_host.specs.declared.codes.HostFault.TheVariants.{WrongLength, NoBoard, TooLong, NoRoom, NoFile, Closed}
-use Rattle.pac_host.specs.Handed.{MayRun}
-use Rattle.pac_host.specs.Host.{most_samples}
+use Rattle.pac_block.specs.declared.codes.HostFault.{HostFault}
+use Rattle.pac_block.specs.declared.codes.HostFault.TheVariants.{WrongLength, NoBoard, TooLong, NoRoom, NoFile, Closed}
+use Rattle.pac_block.specs.Handed.{MayRun}
+use Rattle.pac_block.specs.Host.{most_samples}
 use Rattle.pac_host.specs.LiveTime.{RunFails}
 
 pub run-fails : (fault : HostFault) (board : BoardValue) (microseconds : ℕ) (samples : List ℤ) (state : BoardState) → state ≡ board.state

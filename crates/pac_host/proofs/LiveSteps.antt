@@ -13,12 +13,12 @@ use Rattle.pac_board.specs.declared.fault.Fault.{Fault}
 use Rattle.pac_board.specs.declared.fault.Fault.TheVariants.{TooFar, Refused}
 use Rattle.pac_board.specs.SinksLaws.{by}
 use Rattle.pac_board.specs.State.{BoardValue, due_outputs, latest}
-use Rattle.pac_host.specs.Host.{samples_due}
+use Rattle.pac_block.specs.Host.{samples_due}
 use Rattle.pac_host.specs.LiveStep.{outputs_of_one, stop_of_next}
 use Rattle.pac_host.specs.LiveSteps.{stop_of_once}
-use Rattle.pac_host.specs.Sounding.{sounding_took, sounding_refused}
-use Rattle.pac_host.specs.declared.sounds.Sounds.{Sounds}
-use Rattle.pac_host.proofs.Sounding.{due-pictures, due-sounds, none-refused, pictures-append, sounds-append}
+use Rattle.pac_block.specs.Sounding.{sounding_took, sounding_refused}
+use Rattle.pac_block.specs.declared.sounds.Sounds.{Sounds}
+use Rattle.pac_block.proofs.Sounding.{due-pictures, due-sounds, none-refused, pictures-append, sounds-append}
 
 -- a step's outputs are those of the walk of one step
 outputs-walked : (now : Moment BoardView) (next : Next BoardView) → outputs_in next ≡ (walk_after_step (walk_at_start now) next).outputs

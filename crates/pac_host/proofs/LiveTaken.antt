@@ -10,7 +10,7 @@ use Rattle.pac_state.specs.Saved.{upgraded_board, version_in}
 use Rattle.pac_state.specs.SavedLaws.{loaded_board}
 use Rattle.pac_state.specs.SavedProofs.{FindsFields}
 use Rattle.pac_state.proofs.Files.{accepts}
-use Rattle.pac_host.specs.declared.codes.HostFault.TheVariants.{NoFile}
+use Rattle.pac_block.specs.declared.codes.HostFault.TheVariants.{NoFile}
 use Rattle.pac_host.specs.LiveFiles.{HasTakenFile, Loading}
 
 abbrev board_with : Parts → BoardState → ℕ → BoardValue

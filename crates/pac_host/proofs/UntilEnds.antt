@@ -12,11 +12,11 @@ use Rattle.pac_board_model.specs.Walk.{Walk, walk, walk_at_start, walk_after_ste
 use Rattle.pac_board_model.specs.WalkLaws.{has_ended}
 use Rattle.pac_board_model.proofs.Walks.{ended-for-good, ended-stays, ended-whole, going-before, going-steps, late-has-ended, not-both, step-timely}
 use Rattle.pac_board_model.proofs.WalkTimes.{walks-are-timed}
+use Rattle.pac_board.proofs.Roads.{met-nothing}
 use Rattle.pac_board.proofs.Sinks.{cut-after, took-both}
 use Rattle.pac_board.proofs.Turns.{run-later}
 use Rattle.pac_board.specs.Calls.{now_after, with_due}
 use Rattle.pac_board.specs.Turns.{way, way_at, board_after_walk}
-use Rattle.pac_machine.proofs.Watched.{watched-first}
 use Rattle.pac_board.specs.CallsLaws.{IsOfferRefused}
 use Rattle.pac_board.specs.Access.{Access}
 use Rattle.pac_board.specs.Roads.{HasGoneWatching, IsHeld}
@@ -29,13 +29,13 @@ use Rattle.pac_board.specs.Stops.{is_stop}
 use Rattle.pac_board.specs.Trails.{stepped}
 use Rattle.pac_host.specs.declared.live_until.Ended.{Ended}
 use Rattle.pac_host.specs.declared.live_until.Ended.TheVariants.{TimeOver, AtPlace, AtStop, BufferFull, AtAccess}
-use Rattle.pac_host.specs.declared.sounds.Sounds.{Sounds}
+use Rattle.pac_block.specs.declared.sounds.Sounds.{Sounds}
 use Rattle.pac_host.specs.declared.live_until.PacUntil.{PacUntil}
 use Rattle.pac_host.specs.LiveUntil.{EndsBy, HasComeTo, HasMet, IsGoneOn, PassesPlaces, WentBy}
 use Rattle.pac_host.specs.LiveUntils.{IsGone, WalksOn, WalksBy}
-use Rattle.pac_host.specs.Sounding.{sounding_took, sounding_refused}
+use Rattle.pac_block.specs.Sounding.{sounding_took, sounding_refused}
 use Rattle.pac_host.proofs.LiveSteps.{at-most-one}
-use Rattle.pac_host.proofs.Sounding.{are-written, due-pictures, due-sounds, pictures-append, sounds-append}
+use Rattle.pac_block.proofs.Sounding.{are-written, due-pictures, due-sounds, pictures-append, sounds-append}
 
 -- ---- steps of a walk
 
@@ -175,13 +175,6 @@ way-to-now old =
     sym (ended-whole next time (step-timely (by_view old.set)) old.state.now zero
     (late-has-ended time (walk_at_start old.state.now) (omega arith)))
 
--- without a step nothing was met
-none-met-yet : (marks : Option (List ℕ)) (old new : BoardValue) (met : Option Access) → new.state.now.steps ≡ old.state.now.steps → met ≡ None
-    → HasMet marks old new met
-none-met-yet marks old new met steps none =
-    subst (λ (met : Option Access). HasMet marks old new met) (sym none)
-    (watched-first old.set marks (step (by_view old.set)) old.state.now new.state.now.steps steps)
-
 module _ (stops marks : Option (List ℕ)) (limit : ℕ) (old : BoardValue) (sink : Sounds) (none : sink.taken ≡ 0) (no_picture : sink.pictures ≡ 0)
   where
     abbrev Gone : Ended → Option Stop → Option Access → BoardValue → Sounds → Type 0
@@ -214,7 +207,7 @@ module _ (stops marks : Option (List ℕ)) (limit : ℕ) (old : BoardValue) (sin
             },
             refl,
           );
-          watched = none-met-yet marks old new met steps unmet;
+          watched = met-nothing marks old new met steps unmet;
         }
 
     -- the board is at such an address, after what was due was taken
@@ -240,7 +233,7 @@ module _ (stops marks : Option (List ℕ)) (limit : ℕ) (old : BoardValue) (sin
             };
             ends = (refl, unmet, stands, inr some);
           };
-          watched = none-met-yet marks old new met steps unmet;
+          watched = met-nothing marks old new met steps unmet;
         }
 
     -- the board went on after what was due was taken

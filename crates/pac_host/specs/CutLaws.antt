@@ -2,7 +2,7 @@
 use Rattle.std.specs.Prelude.{◌≡◌, ◌<◌, ◌≤◌, ⊤, ℕ, ℤ, ◌+◌, List, [], ◌∷◌, ◌++◌, take}
 use Rattle.pac_board.specs.State.{BoardValue, time_of}
 use Rattle.pac_host.specs.declared.live_until.PacUntil.{PacUntil}
-use Rattle.pac_host.specs.declared.ran.PacRan.{PacRan}
+use Rattle.pac_block.specs.declared.ran.PacRan.{PacRan}
 use Rattle.pac_host.specs.LiveStep.{HasStepped}
 use Rattle.pac_host.specs.LiveTime.{HasRunOn}
 use Rattle.pac_host.specs.LiveUntil.{HasGoneFor}

@@ -1,6 +1,3 @@
-pub mod Codes
-pub mod Handed
-pub mod Host
 pub mod LiveMemory
 pub mod Handle
 pub mod Lent
@@ -9,16 +6,11 @@ pub mod LiveHanded
 pub mod LiveTime
 pub mod LiveStep
 pub mod LiveSteps
+pub mod LiveCodes
 pub mod LiveUntil
 pub mod LiveUntils
 pub mod LiveLook
 pub mod LiveLines
 pub mod LiveFiles
 pub mod LiveLaws
-pub mod HostLaws
 pub mod CutLaws
-pub mod RoomLaws
-pub mod Films
-pub mod Sounding
-pub mod Woven
-pub mod Passed

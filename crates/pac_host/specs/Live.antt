@@ -3,11 +3,11 @@ use Rattle.std.specs.Prelude.{◌≡◌, ◌≢◌, ◌<◌, ◌≤◌, ◌⊎�
 use Rattle.pac_board.specs.State.{BoardValue, power_on_board}
 use Rattle.pac_state.specs.Block.{IsBlock}
 use Rattle.pac_state.specs.Reading.{state_in}
-use Rattle.pac_host.specs.declared.codes.HostFault.{HostFault}
-use Rattle.pac_host.specs.declared.codes.HostFault.TheVariants.{WrongLength, Closed}
+use Rattle.pac_block.specs.declared.codes.HostFault.{HostFault}
+use Rattle.pac_block.specs.declared.codes.HostFault.TheVariants.{WrongLength, Closed}
 use Rattle.pac_host.specs.declared.live.PacLive.{PacLive}
 use Rattle.pac_host.specs.Handle.{live_with_board}
-use Rattle.pac_host.specs.Host.{roms_size, set_of_roms, IsBlockOf, MissesBoard}
+use Rattle.pac_block.specs.Host.{roms_size, set_of_roms, IsBlockOf, MissesBoard}
 use Rattle.pac_host.specs.LiveMemory.{live_seal, live_size}
 
 -- what a call comes to: its answer, and the board before and after it

@@ -5,7 +5,7 @@ use Rattle.pac_state.specs.declared.fault.LoadFault.TheVariants.{NoMemory}
 use Rattle.pac_state.specs.Files.{IsFile, board_of_file}
 use Rattle.pac_state.specs.Saved.{RefusesFile, file_size}
 use Rattle.pac_state.specs.Text.{save_text, written_version}
-use Rattle.pac_host.specs.declared.codes.HostFault.TheVariants.{WrongLength, NoFile}
+use Rattle.pac_block.specs.declared.codes.HostFault.TheVariants.{WrongLength, NoFile}
 use Rattle.pac_host.specs.Live.{BoardCall}
 
 -- the state file of the board, of the version that is written

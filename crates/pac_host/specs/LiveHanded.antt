@@ -1,9 +1,9 @@
 -- For proofs: what is asked of a live board's handle before its board is reached.
 use Rattle.std.specs.Prelude.{◌≡◌, ◌≢◌, ◌≤◌, List, ℕ, length, Result, Ok, Err}
-use Rattle.pac_host.specs.declared.codes.HostFault.{HostFault}
-use Rattle.pac_host.specs.declared.codes.HostFault.TheVariants.{Closed}
+use Rattle.pac_block.specs.declared.codes.HostFault.{HostFault}
+use Rattle.pac_block.specs.declared.codes.HostFault.TheVariants.{Closed}
 use Rattle.pac_host.specs.declared.live.PacLive.{PacLive}
-use Rattle.pac_host.specs.Host.{roms_size}
+use Rattle.pac_block.specs.Host.{roms_size}
 use Rattle.pac_host.specs.Live.{OpenFails}
 use Rattle.pac_host.specs.LiveMemory.{live_seal, live_size}
 

@@ -2,8 +2,8 @@
 use Rattle.std.specs.Prelude.{◌≡◌, ℕ, ℤ, List, Ok}
 use Rattle.pac_board.specs.State.{BoardValue, board_after_reset}
 use Rattle.pac_host.specs.declared.live.PacLive.{PacLive}
-use Rattle.pac_host.specs.Host.{set_of_roms, board_holding}
-use Rattle.pac_host.specs.HostLaws.{HostCall, PowerOn, ResetNow, HoldInputs, LetTimePass, TakeFile, IsCallOfBoard}
+use Rattle.pac_block.specs.Host.{set_of_roms, board_holding}
+use Rattle.pac_block.specs.HostLaws.{HostCall, PowerOn, ResetNow, HoldInputs, LetTimePass, TakeFile, IsCallOfBoard}
 use Rattle.pac_host.specs.Live.{Becoming, HasOpened, Lives}
 use Rattle.pac_host.specs.LiveFiles.{Loading}
 use Rattle.pac_host.specs.LiveTime.{Executing}

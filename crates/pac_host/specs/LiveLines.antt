@@ -4,8 +4,8 @@ use Rattle.std.specs.List.{flat_map}
 use Rattle.pac_board.specs.PictureState.{palette_of}
 use Rattle.pac_board.specs.Tiles.{width, height}
 use Rattle.pac_colour.specs.Colours.{numbers}
-use Rattle.pac_host.specs.declared.codes.HostFault.TheVariants.{WrongLength}
-use Rattle.pac_host.specs.Host.{opaque_pixel}
+use Rattle.pac_block.specs.declared.codes.HostFault.TheVariants.{WrongLength}
+use Rattle.pac_block.specs.Host.{opaque_pixel}
 use Rattle.pac_host.specs.Live.{BoardCall}
 
 -- the lines of a picture, one after another from the top

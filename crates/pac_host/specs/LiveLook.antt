@@ -7,9 +7,9 @@ use Rattle.pac_board.specs.PictureState.{palette_of}
 use Rattle.pac_board.specs.State.{BoardValue}
 use Rattle.pac_num.specs.Numbers.{wrapped_address}
 use Rattle.pac_num.specs.Tabulate.{tabulate}
-use Rattle.pac_host.specs.declared.codes.HostFault.TheVariants.{WrongLength}
+use Rattle.pac_block.specs.declared.codes.HostFault.TheVariants.{WrongLength}
 use Rattle.pac_host.specs.declared.live_look.PacRegisters.{PacRegisters}
-use Rattle.pac_host.specs.Host.{rgba_of, rgba_size}
+use Rattle.pac_block.specs.Host.{rgba_of, rgba_size}
 use Rattle.pac_host.specs.Live.{BoardCall}
 
 -- what the processor would read of a board at so many addresses, from one on; they wrap at 65,536

@@ -6,11 +6,11 @@ use Rattle.pac_board.specs.Output.{Output, sound_count, picture_count}
 use Rattle.pac_board.specs.State.{BoardValue, due_outputs, latest, nothing_due}
 use Rattle.pac_board.specs.Step.{Next, Goes, Ends}
 use Rattle.pac_board.specs.Stop.{Stop}
-use Rattle.pac_host.specs.declared.codes.HostFault.{HostFault}
-use Rattle.pac_host.specs.declared.codes.HostFault.TheVariants.{TooLong, NoRoom}
-use Rattle.pac_host.specs.declared.ran.PacRan.{PacRan}
-use Rattle.pac_host.specs.Codes.{ran_of}
-use Rattle.pac_host.specs.Host.{room_of, samples_given}
+use Rattle.pac_block.specs.declared.codes.HostFault.{HostFault}
+use Rattle.pac_block.specs.declared.codes.HostFault.TheVariants.{TooLong, NoRoom}
+use Rattle.pac_block.specs.declared.ran.PacRan.{PacRan}
+use Rattle.pac_block.specs.Codes.{ran_of}
+use Rattle.pac_block.specs.Host.{room_of, samples_given}
 use Rattle.pac_host.specs.Live.{BoardCall}
 use Rattle.pac_host.specs.LiveTime.{IsRanTold}
 

@@ -4,8 +4,8 @@ use Rattle.pac_board.specs.Once.{Once}
 use Rattle.pac_board.specs.OnceVariants.{Stepped, Stopped}
 use Rattle.pac_board.specs.State.{latest}
 use Rattle.pac_board.specs.Stop.{Stop}
-use Rattle.pac_host.specs.declared.codes.HostFault.{HostFault}
-use Rattle.pac_host.specs.declared.codes.HostFault.TheVariants.{TooLong, NoRoom}
+use Rattle.pac_block.specs.declared.codes.HostFault.{HostFault}
+use Rattle.pac_block.specs.declared.codes.HostFault.TheVariants.{TooLong, NoRoom}
 
 abbrev pub stop_of_once : Once → Option Stop
 stop_of_once (Stepped ticks kind) = None

@@ -4,11 +4,11 @@ use Rattle.pac_board.specs.Calls.{course, outputs_given}
 use Rattle.pac_board.specs.Calls.{run_ticks}
 use Rattle.pac_board.specs.Output.{sound_count, picture_count}
 use Rattle.pac_board.specs.State.{BoardValue, most_asked}
-use Rattle.pac_host.specs.declared.codes.HostFault.{HostFault}
-use Rattle.pac_host.specs.declared.codes.HostFault.TheVariants.{TooLong, NoRoom}
-use Rattle.pac_host.specs.declared.ran.PacRan.{PacRan}
-use Rattle.pac_host.specs.Codes.{ran_of, ran_bytes}
-use Rattle.pac_host.specs.Host.{board_after_exec, most_samples, room_of, samples_given}
+use Rattle.pac_block.specs.declared.codes.HostFault.{HostFault}
+use Rattle.pac_block.specs.declared.codes.HostFault.TheVariants.{TooLong, NoRoom}
+use Rattle.pac_block.specs.declared.ran.PacRan.{PacRan}
+use Rattle.pac_block.specs.Codes.{ran_of, ran_bytes}
+use Rattle.pac_block.specs.Host.{board_after_exec, most_samples, room_of, samples_given}
 use Rattle.pac_host.specs.Live.{BoardCall}
 
 -- a call for so many microseconds on a board, which was done: as on a block

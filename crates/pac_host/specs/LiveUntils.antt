@@ -11,13 +11,13 @@ use Rattle.pac_board.specs.State.{BoardValue, latest}
 use Rattle.pac_board.specs.Stop.{Stop}
 use Rattle.pac_board.specs.Stops.{is_stop}
 use Rattle.pac_board.specs.Turns.{IsWayRefused}
-use Rattle.pac_host.specs.declared.codes.HostFault.{HostFault}
-use Rattle.pac_host.specs.declared.codes.HostFault.TheVariants.{WrongLength, TooLong}
+use Rattle.pac_block.specs.declared.codes.HostFault.{HostFault}
+use Rattle.pac_block.specs.declared.codes.HostFault.TheVariants.{WrongLength, TooLong}
 use Rattle.pac_host.specs.declared.live_until.Ended.{Ended}
 use Rattle.pac_host.specs.declared.live_until.Ended.TheVariants.{TimeOver, AtPlace, AtStop, BufferFull, AtAccess}
-use Rattle.pac_host.specs.declared.sounds.Sounds.{Sounds}
+use Rattle.pac_block.specs.declared.sounds.Sounds.{Sounds}
 use Rattle.pac_host.specs.LiveUntil.{IsMap, is_place, watch_map, WentBy, HasMet}
-use Rattle.pac_host.specs.Sounding.{sounding_took, sounding_refused}
+use Rattle.pac_block.specs.Sounding.{sounding_took, sounding_refused}
 
 -- the addresses of a set that is handed in
 abbrev pub OpensSet : List ℕ → Result (Option (List ℕ)) HostFault → Type 0

@@ -5,8 +5,8 @@
 ghost use Rattle.std.specs.Prelude.{◌≡◌};
 ghost use Rattle.pac_board.specs.State.{board_after_reset};
 ghost use Rattle.pac_state.specs.Saved.{file_size};
-ghost use Rattle.pac_host.specs.Codes.{Answers};
-ghost use Rattle.pac_host.specs.Host as host;
+ghost use Rattle.pac_block.specs.Codes.{Answers};
+ghost use Rattle.pac_block.specs.Host as host;
 ghost use Rattle.pac_host.specs.Live as live_specs;
 ghost use Rattle.pac_host.specs.LiveFiles as live_files_specs;
 ghost use Rattle.pac_host.specs.LiveLines as live_lines_specs;
@@ -16,12 +16,6 @@ ghost use Rattle.pac_host.specs.LiveStep as live_step_specs;
 ghost use Rattle.pac_host.specs.LiveTime as live_time_specs;
 ghost use Rattle.pac_host.specs.LiveUntil as live_until_specs;
 
-mod block;
-mod calls;
-mod codes;
-mod draw;
-mod files;
-mod fronts;
 pub mod laws;
 mod live;
 mod live_calls;
@@ -31,22 +25,14 @@ mod live_look;
 mod live_step;
 mod live_time;
 mod live_until;
-mod passed;
-mod peek;
-mod pixels;
-mod ran;
-mod roms;
-mod sounds;
-mod time;
 
-pub use block::PacBoard;
-pub use codes::HostFault;
-use codes::code;
 pub use live::PacLive;
 pub use live_look::PacRegisters;
 pub use live_until::{Ended, PacUntil};
+use pac_block::codes::code;
+use pac_block::{calls, draw, files, peek};
+pub use pac_block::{HostFault, PacBoard, PacRan, RanBytes};
 use pac_board::{Flags, Inputs};
-pub use ran::{PacRan, RanBytes};
 
 /// The bytes of a board's block: a host that knows another size was made for another library.
 #[unsafe(no_mangle)]

@@ -3,15 +3,15 @@
 ghost use Rattle.std.specs.Prelude.{◌≡◌};
 ghost use Rattle.pac_board.specs.Inputs.{mask};
 ghost use Rattle.pac_board.specs.State.{board_after_reset};
-ghost use Rattle.pac_host.specs.Host as host;
+ghost use Rattle.pac_block.specs.Host as host;
 ghost use Rattle.pac_host.specs.Live as live_specs;
 ghost use Rattle.pac_host.specs.LiveHanded.{IsOpenOr, IsMadeClosed, MayOpen};
 ghost use Rattle.pac_host.specs.LiveMemory.{live_size};
 
-use crate::block::{PacBoard, open as open_block};
-use crate::codes::HostFault;
 use crate::live::PacLive;
-use crate::roms::{check_roms, put_roms};
+use pac_block::block::open as open_block;
+use pac_block::roms::{check_roms, put_roms};
+use pac_block::{HostFault, PacBoard};
 use pac_board::{Board, Inputs};
 use pac_state::laws::{blocks_are_read_back, boards_have_states, states_have_blocks};
 use pac_state::write_block;

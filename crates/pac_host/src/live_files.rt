@@ -5,10 +5,10 @@ ghost use Rattle.pac_host.specs.Live as live_specs;
 ghost use Rattle.pac_host.specs.LiveFiles as live_files;
 ghost use Rattle.pac_state.specs.Saved.{upgraded_board};
 
-use crate::codes::HostFault;
-use crate::files::{FILE_SIZE, put_file};
 use crate::live::PacLive;
 use crate::live_calls::check_open;
+use pac_block::HostFault;
+use pac_block::files::{FILE_SIZE, put_file};
 use pac_board::Board;
 use pac_roms_manifest::digest;
 use pac_state::{file_version, read_file};

@@ -5,10 +5,10 @@ ghost use Rattle.pac_board.specs.Tiles as tile;
 ghost use Rattle.pac_host.specs.Live as live_specs;
 ghost use Rattle.pac_host.specs.LiveLines as live_lines;
 
-use crate::codes::HostFault;
 use crate::live::PacLive;
 use crate::live_calls::check_open;
-use crate::pixels::{Channels, LANES, put_pixels};
+use pac_block::HostFault;
+use pac_block::pixels::{Channels, LANES, put_pixels};
 use pac_board::{Board, HEIGHT, RawLines, WIDTH, raw_row};
 use std::simd::prelude::*;
 

@@ -4,11 +4,11 @@ ghost use Rattle.std.specs.Prelude.{◌≡◌, length};
 ghost use Rattle.pac_host.specs.Live as live_specs;
 ghost use Rattle.pac_host.specs.LiveLook as look;
 
-use crate::codes::HostFault;
-use crate::draw::{RGBA_SIZE, put_lines};
 use crate::live::PacLive;
 use crate::live_calls::check_open;
-use crate::pixels::Channels;
+use pac_block::HostFault;
+use pac_block::draw::{RGBA_SIZE, put_lines};
+use pac_block::pixels::Channels;
 use pac_board::{Board, InterruptMode};
 use pac_num::offset;
 

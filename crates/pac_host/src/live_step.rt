@@ -4,17 +4,17 @@ ghost use Rattle.std.specs.Prelude.{◌≡◌, ◌≤◌, ◌<◌, ◌-◌, ◌+
 ghost use Rattle.pac_board.specs.Calls.{next_of};
 ghost use Rattle.pac_board.specs.Output.{sound_count, picture_count};
 ghost use Rattle.pac_board.specs.State.{latest};
-ghost use Rattle.pac_host.specs.Codes.{ran_of};
-ghost use Rattle.pac_host.specs.Host as host;
+ghost use Rattle.pac_block.specs.Codes.{ran_of};
+ghost use Rattle.pac_block.specs.Host as host;
 ghost use Rattle.pac_host.specs.Live as live_specs;
 ghost use Rattle.pac_host.specs.LiveStep as live_step;
 ghost use Rattle.pac_host.specs.LiveSteps.{MayStep, stop_of_once};
 
-use crate::codes::HostFault;
 use crate::live::PacLive;
 use crate::live_calls::check_open;
-use crate::ran::{PacRan, RanBytes, bytes_of, told};
-use crate::sounds::Sounds;
+use pac_block::ran::{bytes_of, told};
+use pac_block::sounds::Sounds;
+use pac_block::{HostFault, PacRan, RanBytes};
 use pac_board::{Board, LATEST, Once, Stop};
 
 /// The stop that a step met.

@@ -1,16 +1,16 @@
 //! Time and single steps of a live board.
 
 ghost use Rattle.std.specs.Prelude.{◌≡◌};
-ghost use Rattle.pac_host.specs.Handed.{StopsEarly};
-ghost use Rattle.pac_host.specs.Host as host;
+ghost use Rattle.pac_block.specs.Handed.{StopsEarly};
+ghost use Rattle.pac_block.specs.Host as host;
 ghost use Rattle.pac_host.specs.Live as live_specs;
 ghost use Rattle.pac_host.specs.LiveTime as live_time;
 
-use crate::codes::HostFault;
 use crate::live::PacLive;
 use crate::live_calls::check_open;
-use crate::ran::{RanBytes, bytes_of};
-use crate::time::{check, least_asked, run};
+use pac_block::ran::bytes_of;
+use pac_block::time::{check, least_asked, run};
+use pac_block::{HostFault, RanBytes};
 use pac_board::{Board, Stop};
 
 /// Where a stop was met, forgets of what was asked of the board all but what meets the stop again.

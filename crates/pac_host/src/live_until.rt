@@ -4,17 +4,20 @@ ghost use Rattle.std.specs.Prelude.{◌≡◌, ◌≤◌, ◌+◌, ◌^◌, ◌&
 ghost use Rattle.std.specs.Option.{option_copied};
 ghost use Rattle.pac_board.specs.State.{due_outputs, latest, latest_end};
 ghost use Rattle.pac_board.specs.Stops.{is_stop};
+ghost use Rattle.pac_host.specs.LiveCodes as codes;
 ghost use Rattle.pac_host.specs.Live as live_specs;
 ghost use Rattle.pac_host.specs.LiveUntil as live_until;
 ghost use Rattle.pac_host.specs.LiveUntils.{OpensSet, OpensMap, HasLimit, WalksOn, IsGone};
 
-use crate::codes::HostFault;
 use crate::live::PacLive;
 use crate::live_calls::check_open;
-use crate::ran::{PacRan, told};
-use crate::roms::chunk;
-use crate::sounds::Sounds;
-use pac_board::{Access, Board, LATEST, Marks, Stop, Stops, Trail, Unwatched, Watch, WatchedAddresses};
+use pac_block::ran::told;
+use pac_block::roms::chunk;
+use pac_block::sounds::Sounds;
+use pac_block::{HostFault, PacRan};
+use pac_board::{
+    Access, Board, LATEST, Marks, Stop, Stops, Trail, Unwatched, Watch, WatchedAddresses,
+};
 use std::mem::forget;
 
 /// Why a call ended.
@@ -66,7 +69,7 @@ pub struct PacUntil {
 
 /// The number of what ended a call.
 fn number(ended: Ended) -> u32
-    ensures { result ≡ live_until.ended_number ended }
+    ensures { result ≡ codes.ended_number ended }
 {
     match ended {
         Ended::TimeOver => 1,
@@ -79,10 +82,10 @@ fn number(ended: Ended) -> u32
 
 /// Of an access, or of none: its number, its address, and the byte there before and after.
 fn access_told(board: &Board, met: Option<Access>) -> (u8, u16, u8, u8)
-    ensures number { result.0 ≡ live_until.access_number met }
-    ensures address { result.1 ≡ live_until.access_address met }
-    ensures before { result.2 ≡ live_until.byte_before (live_until.reads_now board.now) met }
-    ensures after { result.3 ≡ live_until.byte_after (live_until.reads_now board.now) met }
+    ensures number { result.0 ≡ codes.access_number met }
+    ensures address { result.1 ≡ codes.access_address met }
+    ensures before { result.2 ≡ codes.byte_before (codes.reads_now board.now) met }
+    ensures after { result.3 ≡ codes.byte_after (codes.reads_now board.now) met }
 {
     match met {
         None => (0, 0, 0, 0),
@@ -100,7 +103,7 @@ fn access_told(board: &Board, met: Option<Access>) -> (u8, u16, u8, u8)
 
 /// What is told of a run that ended so, by the access that its last step made, and the board as it is then.
 fn until_told(ran: &PacRan, ended: Ended, met: Option<Access>, board: &Board) -> PacUntil
-    ensures { result ≡ live_until.until_of ran.now ended met board.now }
+    ensures { result ≡ codes.until_of ran.now ended met board.now }
 {
     let (access, address, before, after) = access_told(board, met);
     PacUntil {

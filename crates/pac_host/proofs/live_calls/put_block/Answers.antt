@@ -3,7 +3,7 @@ use Rattle.std.proofs.Common.{ap, ◌∙◌}
 use Rattle.pac_board.specs.Fields.{state_of}
 use Rattle.pac_board.specs.State.{BoardState}
 use Rattle.pac_board.specs.StateLaws.{restored_board}
-use Rattle.pac_host.specs.Host.{set_of_roms}
+use Rattle.pac_block.specs.Host.{set_of_roms}
 use Rattle.pac_host.proofs.live_calls.put_block.Goals as goal
 
 pub put_fields-requires : goal.put_fields-requires

@@ -2,12 +2,12 @@
 use Rattle.std.proofs.Common.{◌≡◌, ◌-◌, ◌++◌, drop, ap, ◌∙◌, arith, rules}
 use Rattle.pac_board.specs.Calls.{next_of}
 use Rattle.pac_board.specs.Output.{sound_count, picture_count}
-use Rattle.pac_host.specs.Codes.{ran_of}
-use Rattle.pac_host.specs.Host.{samples_given}
+use Rattle.pac_block.specs.Codes.{ran_of}
+use Rattle.pac_block.specs.Host.{samples_given}
 use Rattle.pac_host.specs.LiveStep.{outputs_of_one}
 use Rattle.pac_host.specs.LiveSteps.{stop_of_once}
 use Rattle.pac_host.proofs.LiveSteps.{few-sounds, few-pictures, once-stop, step-done}
-use Rattle.pac_host.proofs.Sounding.{are-written}
+use Rattle.pac_block.proofs.Sounding.{are-written}
 use Rattle.pac_host.proofs.live_step.one_step.Goals as goal
 
 pub overflow_cast-sounds : goal.overflow_cast-sounds

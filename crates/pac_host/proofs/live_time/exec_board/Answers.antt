@@ -3,10 +3,10 @@ use Rattle.std.proofs.Common.{◌≤◌, ◌+◌, ◌-◌, ◌^◌, min, length,
 use Rattle.std.proofs.lemmas.Result.{err_from_is_err_and}
 use Rattle.pac_board.specs.Calls.{course}
 use Rattle.pac_board.specs.State.{BoardState, BoardValue, most_asked}
-use Rattle.pac_host.specs.Handed.{StopsEarly}
-use Rattle.pac_host.specs.Host.{most_samples, state_left}
+use Rattle.pac_block.specs.Handed.{StopsEarly}
+use Rattle.pac_block.specs.Host.{most_samples, state_left}
 use Rattle.pac_host.proofs.LiveRun.{run-fails}
-use Rattle.pac_host.proofs.Stops.{stopped-early}
+use Rattle.pac_block.proofs.Stops.{stopped-early}
 use Rattle.pac_host.proofs.live_time.exec_board.Goals as goal
 
 pub check-requires : goal.check-requires

@@ -1,10 +1,10 @@
 -- The buffer has the samples that were given, and they are told.
 use Rattle.std.proofs.Common.{◌≡◌, ◌-◌, ◌++◌, drop, ap, ◌∙◌, arith, rules}
 use Rattle.pac_board.specs.Output.{sound_count, picture_count}
-use Rattle.pac_host.specs.Codes.{ran_of}
-use Rattle.pac_host.specs.Host.{samples_given}
-use Rattle.pac_host.specs.LiveUntil.{until_of}
-use Rattle.pac_host.proofs.Sounding.{are-written}
+use Rattle.pac_block.specs.Codes.{ran_of}
+use Rattle.pac_block.specs.Host.{samples_given}
+use Rattle.pac_host.specs.LiveCodes.{until_of}
+use Rattle.pac_block.proofs.Sounding.{are-written}
 use Rattle.pac_host.proofs.UntilEnds.{few-given}
 use Rattle.pac_host.proofs.live_until.go_told.Goals as goal
 

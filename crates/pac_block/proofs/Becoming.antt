@@ -1,0 +1,30 @@
+-- Blocks whose fronts are written over.
+use Rattle.std.proofs.Common.{◌≡◌, ℕ, List, ◌++◌, length, drop, sym, ap, subst, ◌∙◌}
+use Rattle.pac_board.specs.State.{BoardState, BoardValue}
+use Rattle.pac_state.specs.Block.{block_text, IsBlock}
+use Rattle.pac_state.specs.Files.{IsState}
+use Rattle.pac_state.specs.Reading.{state_in}
+use Rattle.pac_state.specs.Saved.{file_size}
+use Rattle.pac_state.proofs.Framing.{block-again, is-block}
+use Rattle.pac_state.proofs.Fronts.{front-changed}
+use Rattle.pac_block.specs.Handed.{HasFront}
+use Rattle.pac_block.specs.Host.{IsBlockOf, HasBecome, board_in}
+
+-- the text of a state is its block
+pub block-of : (state : BoardState) (new : List ℕ) → IsState state → new ≡ block_text state → IsBlockOf state new
+block-of state new is text = record {
+  text = text;
+  state_is = ap state_in text ∙ block-again state is;
+  block_is = subst IsBlock (sym text) (is-block state is);
+}
+
+-- a block's board becomes another one with the front of that
+pub becomes-front : (becomes : BoardValue → BoardValue) (old front new : List ℕ) → length old ≡ file_size → HasFront becomes old front
+    → new ≡ front ++ drop 3224 old → HasBecome becomes old new
+becomes-front becomes old front new size has written = record {
+  block = has.is_block;
+  board = λ roms.
+      let state = (becomes (board_in roms old)).state in
+      block-of state new (has.front_is roms).is_state
+      (written ∙ front-changed old front state size has.is_block (has.front_is roms) (has.lines roms));
+}

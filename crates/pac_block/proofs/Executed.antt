@@ -1,0 +1,67 @@
+-- A call for some time, put together from what its parts say.
+use Rattle.std.proofs.Common.{◌≡◌, ◌≤◌, ◌<◌, ◌+◌, ◌-◌, ◌^◌, min, ℕ, ℤ, List, ◌++◌, length, drop, Ok, Err, ap, subst, ◌∙◌}
+use Rattle.pac_board.specs.RomParts.{Parts}
+use Rattle.pac_board.specs.Calls.{course, outputs_given}
+use Rattle.pac_board.specs.Calls.{run_ticks}
+use Rattle.pac_board.specs.Output.{sound_count, picture_count}
+use Rattle.pac_board.specs.State.{BoardState, BoardValue, most_asked}
+use Rattle.pac_state.specs.Block.{IsBlock}
+use Rattle.pac_state.specs.Reading.{state_in}
+use Rattle.pac_block.specs.declared.codes.HostFault.{HostFault}
+use Rattle.pac_block.specs.declared.codes.HostFault.TheVariants.{WrongLength, NoBoard, TooLong, NoRoom, NoFile, Closed}
+use Rattle.pac_block.specs.declared.ran.PacRan.{PacRan}
+use Rattle.pac_block.specs.Codes.{ran_of}
+use Rattle.pac_block.specs.Handed.{MayRun}
+use Rattle.pac_block.specs.Host.{roms_size, set_of_roms, board_in, board_after_exec, IsBlockOf, samples_given, most_samples}
+use Rattle.pac_block.specs.Host.{HasExecuted, ExecFails}
+
+-- what a run of a board leaves of block and buffer, and what is told
+record Leaves (microseconds : ℕ) (samples : List ℤ) (new : List ℕ) (after : List ℤ) (ran : PacRan) (board : BoardValue) : Type 0 where
+  block : IsBlockOf (board_after_exec board microseconds).state new
+  samples_are : after ≡ samples_given (outputs_given board microseconds) ++ drop (sound_count (outputs_given board microseconds)) samples
+  ran_is :
+      ran
+      ≡ ran_of (run_ticks board microseconds) (sound_count (outputs_given board microseconds))
+      (picture_count (outputs_given board microseconds)) (course board microseconds).stop
+
+pub executed : (roms block : List ℕ) (microseconds : ℕ) (samples : List ℤ) (set : Parts) (state : BoardState) (machine : BoardValue)
+    (new : List ℕ) (after : List ℤ) (ran : PacRan) → (length roms ≡ roms_size) × (set ≡ set_of_roms roms) → IsBlock block
+    → state ≡ state_in block → MayRun state microseconds (length samples) (Ok tt)
+    → machine ≡ record { set = set; state = state; made = 0 } → IsBlockOf (board_after_exec machine microseconds).state new
+    → after ≡ samples_given (outputs_given machine microseconds) ++ drop (sound_count (outputs_given machine microseconds)) samples
+    → ran ≡ ran_of (run_ticks machine microseconds) (sound_count (outputs_given machine microseconds))
+    (picture_count (outputs_given machine microseconds)) (course machine microseconds).stop
+    → HasExecuted roms block microseconds samples new after ran
+executed roms block microseconds samples set state machine new after ran roms_are is_block same may machine_is kept samples_are ran_is =
+    let board : machine ≡ board_in roms block =
+    machine_is
+    ∙ ap (λ set. record { set = set; state = state; made = 0 }) roms_are.1
+    ∙ ap (λ state. record { set = set_of_roms roms; state = state; made = 0 }) same in
+    let left = subst (Leaves microseconds samples new after ran) board
+    (record { block = kept; samples_are = samples_are; ran_is = ran_is }) in
+    record {
+      roms_are = roms_are.0;
+      block_is = is_block;
+      within = subst (λ (state : BoardState). state.asked + microseconds ≤ most_asked) same may.0;
+      room = subst (λ state. most_samples state microseconds ≤ min (length samples) (2 ^ 32 - 1)) same may.1;
+      board = left.block;
+      samples_are = left.samples_are;
+      ran_is = left.ran_is;
+    }
+
+-- why a call isn't done
+pub may-not-run : (fault : HostFault) (roms block : List ℕ) (microseconds : ℕ) (samples : List ℤ) (state : BoardState)
+    → length roms ≡ roms_size → IsBlock block → state ≡ state_in block → MayRun state microseconds (length samples) (Err fault)
+    → ExecFails roms block microseconds samples fault
+may-not-run TooLong roms block microseconds samples state roms_are is_block same not =
+    (roms_are, is_block, subst (λ (state : BoardState). most_asked < state.asked + microseconds) same not)
+may-not-run NoRoom roms block microseconds samples state roms_are is_block same not = (
+  roms_are,
+  is_block,
+  subst (λ (state : BoardState). state.asked + microseconds ≤ most_asked) same not.0,
+  subst (λ state. min (length samples) (2 ^ 32 - 1) < most_samples state microseconds) same not.1,
+)
+may-not-run WrongLength roms block microseconds samples state roms_are is_block same not = absurd not
+may-not-run NoBoard roms block microseconds samples state roms_are is_block same not = absurd not
+may-not-run (NoFile fault) roms block microseconds samples state roms_are is_block same not = absurd not
+may-not-run Closed roms block microseconds samples state roms_are is_block same not = absurd not

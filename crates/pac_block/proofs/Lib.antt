@@ -1,0 +1,16 @@
+pub mod Executed
+pub mod Filling
+pub mod FrameWalks
+pub mod Told
+pub mod Films
+pub mod FramesDone
+pub mod OneBoard
+pub mod OneStep
+pub mod RoomOfCalls
+pub mod Sounding
+pub mod Stops
+pub mod TimeParts
+pub mod Woven
+pub mod Becoming
+pub mod Loaded
+pub mod Recomposing

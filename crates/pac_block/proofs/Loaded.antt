@@ -1,0 +1,65 @@
+-- The block of a file's board.
+use Rattle.std.proofs.Common.{◌≡◌, ◌<◌, ◌==◌, ℕ, Bool, true, false, if◌then◌else◌}
+use Rattle.std.proofs.Common.{List, length, get_or, Ok, Err, refl, ap, subst, ◌∙◌, arith}
+use Rattle.pac_board.specs.BoardFields.{Fields}
+use Rattle.pac_board.specs.BoardView.{video_roms, video_memory}
+use Rattle.pac_board.specs.Fields.{state_of}
+use Rattle.pac_board.specs.RomParts.{Parts}
+use Rattle.pac_board.specs.State.{BoardState, BoardValue, passed_lines}
+use Rattle.pac_state.specs.declared.fault.LoadFault.{LoadFault}
+use Rattle.pac_state.specs.Block.{block_text}
+use Rattle.pac_state.specs.Files.{IsState}
+use Rattle.pac_state.specs.Reading.{state_in}
+use Rattle.pac_state.specs.Saved.{upgraded_board, version_in}
+use Rattle.pac_state.specs.SavedLaws.{loaded_board}
+use Rattle.pac_state.specs.SavedProofs.{FindsFields}
+use Rattle.pac_state.proofs.Files.{accepts}
+use Rattle.pac_block.specs.declared.codes.HostFault.TheVariants.{NoFile}
+use Rattle.pac_block.specs.Host.{roms_size, set_of_roms, IsBlockOf, HasLoaded, LoadFails}
+use Rattle.pac_block.specs.Passed.{recomposed_state, upgraded_state}
+use Rattle.pac_block.proofs.Becoming.{block-of}
+use Rattle.pac_block.proofs.Recomposing.{recomposed-is-state}
+
+upgraded-of : (is_old : Bool) (board view : BoardValue)
+    → (if is_old then view.state else board.state) ≡ (if is_old then view else board).state
+upgraded-of true board view = refl
+upgraded-of false board view = refl
+
+upgraded-is : (set : Parts) (version : ℕ) (state : BoardState)
+    → upgraded_state set version state ≡ (upgraded_board version (record { set = set; state = state; made = 0 })).state
+upgraded-is set version state =
+    upgraded-of (version == 1) (record { set = set; state = state; made = 0 })
+    (record { set = set; state = recomposed_state set state; made = 0 })
+
+upgraded-is-state : (set : Parts) (version : ℕ) (state : BoardState) → IsState state → IsState (upgraded_state set version state)
+upgraded-is-state set version state is = either (version == 1)
+  where
+    either : (is_old : Bool) → IsState (if is_old then recomposed_state set state else state)
+    either true =
+        recomposed-is-state (video_roms set) (video_memory state.now.board.memory) (passed_lines state.now.time) state (omega arith) is
+    either false = is
+
+-- the block of the state that is left is that of the file's board
+pub loaded : (roms text new : List ℕ) (fields : Fields) → length roms ≡ roms_size → ((i : ℕ) → get_or text i 0 < 256)
+    → FindsFields (set_of_roms roms) text (Ok fields) → IsState (state_of fields)
+    → new ≡ block_text (upgraded_state (set_of_roms roms) (version_in text) (state_of fields)) → HasLoaded roms text new
+loaded roms text new fields sized fits found is written =
+    let set = set_of_roms roms in
+    let version = version_in text in
+    let read = accepts set text fits (Ok (loaded_board set text)) (record { sound = found.sound; text = found.text; board = refl }) in
+    let same : upgraded_state set version (state_of fields) ≡ (loaded_board set text).state =
+    ap (upgraded_state set version) found.state ∙ upgraded-is set version (state_in text) in
+    let block : IsBlockOf (loaded_board set text).state new =
+    subst (λ (state : BoardState). IsBlockOf state new) same
+    (block-of (upgraded_state set version (state_of fields)) new (upgraded-is-state set version (state_of fields) is) written) in
+    record {
+      roms_are = sized;
+      file = read.file;
+      board = λ file. subst (λ (board : BoardValue). IsBlockOf board.state new) (read.board file) block;
+    }
+
+pub not-loaded : (roms text : List ℕ) (fault : LoadFault) → length roms ≡ roms_size → ((i : ℕ) → get_or text i 0 < 256)
+    → FindsFields (set_of_roms roms) text (Err fault) → LoadFails roms text (NoFile fault)
+not-loaded roms text fault sized fits found =
+    let set = set_of_roms roms in
+    (sized, found.refuses, found.of_file, accepts set text fits (Err fault) (record { refuses = found.refuses; of_file = found.of_file }))

@@ -1,0 +1,83 @@
+-- The calls on a host's blocks are the calls of one board, whose count of steps is all that its blocks don't keep.
+use Rattle.std.proofs.Common.{◌≡◌, ℕ, ◌==◌, Bool, true, false, if◌then◌else◌, List, [], ◌∷◌, refl, ap, ◌∙◌}
+use Rattle.pac_board.specs.State.{BoardState, BoardValue}
+use Rattle.pac_state.specs.Files.{IsFile, board_of_file}
+use Rattle.pac_state.specs.Reading.{state_in}
+use Rattle.pac_block.specs.Host.{board_after_exec, set_of_roms}
+use Rattle.pac_block.specs.HostLaws.{HostCall, PowerOn, ResetNow, HoldInputs, LetTimePass, TakeFile}
+use Rattle.pac_block.specs.HostLaws.{IsCallDone, AreDone, IsCallOfBoard, AreCallsOfBoard, BlocksAreOneBoard}
+
+-- the board of these ROMs in this state, which counted so many steps
+abbrev kept : List ℕ → BoardState → ℕ → BoardValue
+kept roms state made = record { set = set_of_roms roms; state = state; made = made }
+
+-- ---- one call
+
+-- the board that was kept has the state of the block, before the call and after it
+record IsOneCall (roms : List ℕ) (call : HostCall) (old new : List ℕ) (made : ℕ) : Type 0 where
+  after : ℕ
+  call_is : IsCallOfBoard call (kept roms (state_in old) made) (kept roms (state_in new) after)
+
+-- a file's board has its set, and no step is counted yet
+upgraded-is : (b : Bool) (board view : BoardValue) → board.set ≡ view.set → board.made ≡ view.made
+    → ◌≡◌ {A = BoardValue}
+    (record { set = board.set; state = (if b then view else board).state; made = board.made })
+    (if b then view else board)
+upgraded-is true board view set made = λ i. record { set = set i; state = view.state; made = made i }
+upgraded-is false board view set made = refl
+
+file-board-is : (roms text : List ℕ) (file : IsFile (set_of_roms roms) text)
+    → kept roms (board_of_file (set_of_roms roms) file).state 0 ≡ board_of_file (set_of_roms roms) file
+file-board-is roms text file = upgraded-is (file.version == 1) (kept roms file.state 0) _ refl refl
+
+one-call : (roms : List ℕ) (call : HostCall) (old new : List ℕ) (made : ℕ) → IsCallDone roms call old new → IsOneCall roms call old new made
+one-call roms (PowerOn switches) old new made done = record {
+  after = 0;
+  call_is = ap (λ (state : BoardState). kept roms state 0) done.board.state_is;
+}
+one-call roms ResetNow old new made done = record {
+  after = made;
+  call_is = ap (λ (state : BoardState). kept roms state made) (done.board roms).state_is;
+}
+one-call roms (HoldInputs set clear) old new made done = record {
+  after = made;
+  call_is = ap (λ (state : BoardState). kept roms state made) (done.board roms).state_is;
+}
+one-call roms (LetTimePass microseconds) old new made done =
+    let after = (board_after_exec (kept roms (state_in old) made) microseconds).made in
+    record { after = after; call_is = ap (λ (state : BoardState). kept roms state after) done.3.board.state_is }
+one-call roms (TakeFile text) old new made done = record {
+  after = 0;
+  call_is = (
+    done.file,
+    ap (λ (state : BoardState). kept roms state 0) (done.board done.file).state_is ∙ file-board-is roms text done.file,
+  );
+}
+
+-- ---- calls, one after another
+
+record AreMade (roms : List ℕ) (calls : List HostCall) (old new : List ℕ) (made : ℕ) : Type 0 where
+  board : BoardValue
+  calls_are : AreCallsOfBoard calls (kept roms (state_in old) made) board
+  state : state_in new ≡ board.state
+
+are-made : (roms : List ℕ) (calls : List HostCall) (old new : List ℕ) (made : ℕ) → AreDone roms calls old new
+    → AreMade roms calls old new made
+are-made roms [] old new made done = record {
+  board = kept roms (state_in old) made;
+  calls_are = refl;
+  state = ap state_in done;
+}
+are-made roms (call ∷ calls) old new made done =
+    let one = one-call roms call old done.0 made done.1 in
+    let more = are-made roms calls done.0 new one.after done.2 in
+    record {
+      board = more.board;
+      calls_are = (kept roms (state_in done.0) one.after, one.call_is, more.calls_are);
+      state = more.state;
+    }
+
+pub blocks-are-one-board : BlocksAreOneBoard
+blocks-are-one-board roms calls old new done =
+    let all = are-made roms calls old new 0 done in
+    record { board = all.board; made = all.calls_are; state = all.state }

@@ -1,0 +1,38 @@
+-- A microsecond has at most four T-states, as many as each step takes at least.
+use Rattle.std.proofs.Common.{◌≤◌, ℕ, ◌+◌, Bool, true, false, nat_le, None, ap, sym, subst, ◌∙◌, arith}
+use Rattle.pac_board_model.specs.Laws.{IsTimely}
+use Rattle.pac_board_model.specs.Step.{Moment, Next, Goes, Ends, step}
+use Rattle.pac_board_model.specs.Trace.{by_view}
+use Rattle.pac_board_model.specs.Walk.{onward_if, walk_at_start, walk_after_step}
+use Rattle.pac_board_model.proofs.Walks.{ended-whole, step-timely, walk-ends}
+use Rattle.pac_board.specs.State.{BoardState, time_of}
+use Rattle.pac_state.specs.Reading.{state_in}
+use Rattle.pac_block.specs.Host.{set_of_roms}
+use Rattle.pac_block.specs.HostLaws.{OneStepAtMost}
+
+-- a step is one step, and a stop none
+step-counted : {Board : Type 0} (now : Moment Board) (next : Next Board) → IsTimely now next
+    → (walk_after_step (walk_at_start now) next).now.steps ≤ now.steps + 1
+step-counted now (Goes after outputs kind) timely = let one = timely.2 in omega (arith, one)
+step-counted now (Ends stop) timely = omega arith
+
+first-counted : {Board : Type 0} (next : Moment Board → Next Board) (now : Moment Board) (late : Bool) → IsTimely now (next now)
+    → (onward_if next (walk_at_start now) None late).now.steps ≤ now.steps + 1
+first-counted next now true timely = omega arith
+first-counted next now false timely = step-counted now (next now) timely
+
+-- the time of a microsecond more
+pub soon : (asked time : ℕ) → time_of asked ≤ time → time_of (asked + 1) ≤ time + 4
+soon asked time late = omega (arith, late)
+
+pub one-step-at-most : OneStepAtMost
+one-step-at-most roms block new samples samples_after ran done late =
+    let state = state_in block in
+    let now = state.now in
+    let limit = time_of (state.asked + 1) in
+    let ask = by_view (set_of_roms roms) in
+    let ended = walk-ends (step ask) limit (step-timely ask) now 1 (soon state.asked now.time late) in
+    let whole = ended-whole (step ask) limit (step-timely ask) now 1 ended in
+    let first = first-counted (step ask) now (nat_le limit now.time) (step-timely ask now) in
+    subst (λ (steps : ℕ). steps ≤ now.steps + 1)
+    (ap (λ w. w.now.steps) whole ∙ sym (ap (λ (state : BoardState). state.now.steps) done.board.state_is)) first

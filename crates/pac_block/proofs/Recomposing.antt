@@ -1,0 +1,168 @@
+-- Lines of the picture in a block that are composed again, from the top.
+use Rattle.std.proofs.Common.{◌≡◌, ◌<◌, ◌≤◌, ℕ, zero, suc, ◌+◌, ◌-◌, ◌*◌, List, [], ◌∷◌, ◌++◌, length, get_or, take, drop}
+use Rattle.std.proofs.Common.{refl, sym, ap, subst, ◌∙◌, arith, append_assoc}
+use Rattle.std.proofs.Math.Seq.{take-append_seam, drop-append_seam, drop-cons}
+use Rattle.std.proofs.lemmas.Grind.{flat_map-append}
+use Rattle.std.proofs.lemmas.Bool.{cases_lt}
+use Rattle.std.proofs.lemmas.List.{length-append, drop-drop, length-drop, get_or_append_left, get_or-append_right, get_or-drop}
+use mathlib.Core.Logic.{inl, inr}
+use Rattle.pac_num.proofs.Tabulated.{length-tabulate, get_or-tabulate}
+use Rattle.pac_num.specs.Tabulate.{tabulate}
+use Rattle.pac_board.specs.PictureState.{IsPicture}
+use Rattle.pac_board.specs.State.{BoardState}
+use Rattle.pac_out.specs.Pieces.{joined_pieces}
+use Rattle.pac_picture.specs.Picture.{VideoRoms, VideoMemory, picture_line}
+use Rattle.pac_picture.proofs.Composed.{picture-is, line-below, length-line_of}
+use Rattle.pac_state.specs.Block.{block_text, no_digest}
+use Rattle.pac_state.specs.Files.{IsState}
+use Rattle.pac_state.specs.Text.{head, ram, devices, file_front, written_version}
+use Rattle.pac_state.proofs.Written.{length-front}
+use Rattle.pac_block.specs.Passed.{picture_offset, composed_lines, state_with_lines}
+
+-- ---- a picture composed from the top is one
+
+-- each of its lines is composed, or was there
+line-of : (P : List ℕ → Type 0) (value : ℕ → List ℕ) (count : ℕ) (lines : List (List ℕ)) (y : ℕ) → P (value y) → P (get_or lines y [])
+    → P (get_or (tabulate count value ++ drop count lines) y [])
+line-of P value count lines y made there =
+    let before = tabulate count value in
+    let long = length-tabulate count value in
+    elim (cases_lt y count) [
+      | inl above ↦
+          subst P (sym (get_or_append_left before (drop count lines) [] y (omega (arith, long, above))
+          ∙ get_or-tabulate count value y [] above)) made
+      | inr past ↦
+          let place : count + (y - count) ≡ y = omega (arith, past) in
+          subst P (sym (get_or-append_right before (drop count lines) count y [] long (omega (arith, past))
+          ∙ get_or-drop count lines (y - count) []
+          ∙ ap (λ (y : ℕ). get_or lines y []) place)) there
+    ]
+
+pub composed-picture : (roms : VideoRoms) (memory : VideoMemory) (count : ℕ) (lines : List (List ℕ)) → IsPicture lines → count ≤ 224
+    → IsPicture (composed_lines roms memory count lines)
+composed-picture roms memory count lines picture within =
+    let value = picture_line roms memory in
+    let high = picture.high in
+    let long = length-tabulate count value in
+    let left = length-drop count lines in
+    let all = length-append (tabulate count value) (drop count lines) in
+    picture-is (composed_lines roms memory count lines) (omega (arith, high, within, long, left, all))
+    (λ y below. line-of (λ (line : List ℕ). length line ≡ 288) value count lines y (length-line_of roms memory y) (picture.wide y below))
+    (λ x y below. line-of (λ (line : List ℕ). get_or line x 0 < 16) value count lines y (line-below roms memory y x)
+    (picture.below x y))
+
+-- ---- one line more in a block
+
+-- a piece of a text with another of its size in its place
+spliced : (at : ℕ) (before old new after : List ℕ) → length before ≡ at → length old ≡ length new
+    → take at (before ++ (old ++ after)) ++ new ++ drop (at + length new) (before ++ (old ++ after)) ≡ before ++ (new ++ after)
+spliced at before old new after here same =
+    let first : take at (before ++ (old ++ after)) ≡ before =
+    subst (λ (at : ℕ). take at (before ++ (old ++ after)) ≡ before) here (take-append_seam before (old ++ after)) in
+    let last : drop at (before ++ (old ++ after)) ≡ old ++ after =
+    subst (λ (at : ℕ). drop at (before ++ (old ++ after)) ≡ old ++ after) here (drop-append_seam before (old ++ after)) in
+    let rest : drop (at + length new) (before ++ (old ++ after)) ≡ after =
+    sym (drop-drop (length new) at (before ++ (old ++ after))) ∙ ap (drop (length new)) last
+    ∙ subst (λ (size : ℕ). drop size (old ++ after) ≡ after) same (drop-append_seam old after) in
+    ap (λ (front : List ℕ). (front ++ new) ++ drop (at + length new) (before ++ (old ++ after))) first
+    ∙ ap (λ (after : List ℕ). (before ++ new) ++ after) rest
+    ∙ append_assoc before new after
+
+-- where the lines that are composed end
+lines-long : (value : ℕ → List ℕ) → ((y : ℕ) → length (value y) ≡ 288) → (count : ℕ)
+    → length (joined_pieces (tabulate count value)) ≡ 288 * count
+unfolding tabulate
+lines-long value wide zero = refl
+lines-long value wide (suc count) =
+    let before = lines-long value wide count in
+    let line = wide count in
+    let joined = length-append (joined_pieces (tabulate count value)) (joined_pieces (value count ∷ [])) in
+    let last = length-append (value count) [] in
+    ap length (flat_map-append (λ (piece : List ℕ). piece) (tabulate count value) (value count ∷ []))
+    ∙ omega (arith, before, line, joined, last)
+
+-- a text with one of its pieces, and what stands before and after that
+apart : (front : List ℕ) (before : List (List ℕ)) (piece : List ℕ) (after : List (List ℕ)) (end : List ℕ)
+    → (front ++ joined_pieces (before ++ (piece ∷ after))) ++ end
+    ≡ (front ++ joined_pieces before) ++ (piece ++ (joined_pieces after ++ end))
+apart front before piece after end =
+    ap (λ (pieces : List ℕ). (front ++ pieces) ++ end) (flat_map-append (λ (piece : List ℕ). piece) before (piece ∷ after))
+    ∙ ap (λ (text : List ℕ). text ++ end) (sym (append_assoc front (joined_pieces before) (piece ++ joined_pieces after)))
+    ∙ append_assoc (front ++ joined_pieces before) (piece ++ joined_pieces after) end
+    ∙ ap (λ (text : List ℕ). (front ++ joined_pieces before) ++ text) (append_assoc piece (joined_pieces after) end)
+
+-- the block of a state with these lines
+abbrev with_text : BoardState → List (List ℕ) → List ℕ
+with_text state lines = (file_front written_version no_digest state ++ joined_pieces lines) ++ no_digest
+
+front-same : (roms : VideoRoms) (memory : VideoMemory) (count : ℕ) (state : BoardState)
+    → file_front written_version no_digest (state_with_lines roms memory count state) ≡ file_front written_version no_digest state
+unfolding head ram devices
+front-same roms memory count state = refl
+
+text-is : (roms : VideoRoms) (memory : VideoMemory) (count : ℕ) (state : BoardState)
+    → block_text (state_with_lines roms memory count state) ≡ with_text state (composed_lines roms memory count state.now.board.lines)
+unfolding block_text
+text-is roms memory count state =
+    ap (λ (front : List ℕ). (front ++ joined_pieces (composed_lines roms memory count state.now.board.lines)) ++ no_digest)
+    (front-same roms memory count state)
+
+-- none yet
+pub none-yet : (roms : VideoRoms) (memory : VideoMemory) (state : BoardState) → state_with_lines roms memory 0 state ≡ state
+unfolding tabulate
+none-yet roms memory state = refl
+
+pub line-put : (roms : VideoRoms) (memory : VideoMemory) (state : BoardState) (y : ℕ) (line old new : List ℕ) → IsState state → y < 224
+    → line ≡ picture_line roms memory y → old ≡ block_text (state_with_lines roms memory y state)
+    → new ≡ take (picture_offset y) old ++ line ++ drop (picture_offset y + 288) old
+    → new ≡ block_text (state_with_lines roms memory (y + 1) state)
+unfolding tabulate
+line-put roms memory state y line old new is below composed text put =
+    let lines = state.now.board.lines in
+    let value = picture_line roms memory in
+    let front = file_front written_version no_digest state in
+    let high = is.range.picture.high in
+    let before = tabulate y value in
+    let after = drop (suc y) lines in
+    let here = get_or lines y [] in
+    let left : drop y lines ≡ here ∷ after = drop-cons lines y [] (omega (arith, high, below)) in
+    let was : old ≡ (front ++ joined_pieces before) ++ (here ++ (joined_pieces after ++ no_digest)) =
+    text ∙ text-is roms memory y state ∙ ap (λ (rest : List (List ℕ)). with_text state (before ++ rest)) left
+    ∙ apart front before here after no_digest in
+    let wide : length line ≡ 288 = ap length composed ∙ length-line_of roms memory y in
+    let width : length here ≡ length line = is.range.picture.wide y below ∙ sym wide in
+    let first = length-front written_version no_digest state refl is.memory in
+    let some = lines-long value (length-line_of roms memory) y in
+    let both = length-append front (joined_pieces before) in
+    let at : length (front ++ joined_pieces before) ≡ picture_offset y = omega (arith, first, some, both) in
+    let next : y + 1 ≡ suc y = omega arith in
+    let parts : List ℕ → List ℕ = λ (line : List ℕ). (front ++ joined_pieces before) ++ (line ++ (joined_pieces after ++ no_digest)) in
+    put
+    ∙ ap (λ (size : ℕ). take (picture_offset y) old ++ line ++ drop (picture_offset y + size) old) (sym wide)
+    ∙ ap (λ (old : List ℕ). take (picture_offset y) old ++ line ++ drop (picture_offset y + length line) old) was
+    ∙ spliced (picture_offset y) (front ++ joined_pieces before) here line (joined_pieces after ++ no_digest) at width
+    ∙ ap parts composed
+    ∙ sym (apart front before (value y) after no_digest)
+    ∙ ap (with_text state) (sym (append_assoc before (value y ∷ []) after))
+    ∙ ap (λ (n : ℕ). with_text state (composed_lines roms memory n lines)) (sym next)
+    ∙ sym (text-is roms memory (y + 1) state)
+
+-- ---- the state
+
+pub recomposed-is-state : (roms : VideoRoms) (memory : VideoMemory) (count : ℕ) (state : BoardState) → count ≤ 224 → IsState state
+    → IsState (state_with_lines roms memory count state)
+recomposed-is-state roms memory count state within is = record {
+  words = is.words;
+  memory = is.memory;
+  held = is.held;
+  sample = is.sample;
+  range = record {
+    registers = is.range.registers;
+    count = is.range.count;
+    accumulators = is.range.accumulators;
+    steps = is.range.steps;
+    time = is.range.time;
+    asked = is.range.asked;
+    picture = composed-picture roms memory count state.now.board.lines is.range.picture within;
+  };
+}

@@ -1,0 +1,61 @@
+-- What a host reads in the bytes that tell of a call for some time is what was told.
+use Rattle.std.proofs.Common.{◌≡◌, ◌≤◌, ◌<◌, ◌+◌, ◌^◌, ℕ, ℤ, List, Option, None, Some, sym, subst, ap, arith}
+use Rattle.std.proofs.lemmas.Nat.{from_le_bytes-to_le_bytes_4}
+use Rattle.pac_board.specs.Calls.{course, outputs_given}
+use Rattle.pac_board.specs.Cause.{Cause}
+use Rattle.pac_board.specs.CauseVariants.{Opcode, Vector}
+use Rattle.pac_board.specs.Calls.{run_ticks}
+use Rattle.pac_board.specs.Output.{sound_count, picture_count}
+use Rattle.pac_board.specs.State.{time_of}
+use Rattle.pac_board.specs.Stop.{Stop}
+use Rattle.pac_block.specs.declared.ran.PacRan.{PacRan}
+use Rattle.pac_block.specs.Codes.{cause_number, ran_of, ran_bytes}
+use Rattle.pac_block.specs.Films.{ran_read}
+use Rattle.pac_block.specs.Host.{board_in, HasExecuted}
+use Rattle.pac_block.proofs.Sounding.{sounds-bounded, pictures-bounded}
+use Rattle.pac_block.proofs.TimeParts.{tells}
+
+read-samples : (ran : PacRan) → ran.samples < 2 ^ 32 → (ran_read (ran_bytes ran)).samples ≡ ran.samples
+unfolding ran_bytes
+read-samples ran below = from_le_bytes-to_le_bytes_4 ran.samples below
+
+read-pictures : (ran : PacRan) → ran.pictures < 2 ^ 32 → (ran_read (ran_bytes ran)).pictures ≡ ran.pictures
+unfolding ran_bytes
+read-pictures ran below = from_le_bytes-to_le_bytes_4 ran.pictures below
+
+read-stop : (ran : PacRan) → ran.stop < 2 ^ 32 → (ran_read (ran_bytes ran)).stop ≡ ran.stop
+unfolding ran_bytes
+read-stop ran below = from_le_bytes-to_le_bytes_4 ran.stop below
+
+few-causes : (cause : Cause) → cause_number cause ≤ 2
+few-causes Opcode = omega arith
+few-causes (Vector byte) = omega arith
+
+few-stops : (ticks samples pictures : ℕ) (stop : Option Stop) → (ran_of ticks samples pictures stop).stop ≤ 2
+few-stops ticks samples pictures None = omega arith
+few-stops ticks samples pictures (Some stop) = few-causes stop.cause
+
+pub record IsRead (ran : PacRan) : Type 0 where
+  pub samples : (ran_read (ran_bytes ran)).samples ≡ ran.samples
+  pub pictures : (ran_read (ran_bytes ran)).pictures ≡ ran.pictures
+  pub stop : (ran_read (ran_bytes ran)).stop ≡ ran.stop
+
+pub ran-is-read : (roms block : List ℕ) (microseconds : ℕ) (buffer : List ℤ) (new : List ℕ) (samples : List ℤ) (ran : PacRan)
+    → HasExecuted roms block microseconds buffer new samples ran → IsRead ran
+ran-is-read roms block microseconds buffer new samples ran done =
+    let board = board_in roms block in
+    let told = tells roms block microseconds buffer new samples ran done in
+    let outputs = outputs_given board microseconds in
+    let bound = sounds-bounded board microseconds (time_of (board.state.asked + microseconds)) in
+    let room = done.room in
+    let few = pictures-bounded board microseconds (omega (arith, room)) in
+    let count = told.count in
+    let shown = told.pictures in
+    let stops : ran.stop ≤ 2 =
+    subst (λ n. n ≤ 2) (sym (ap (λ (ran : PacRan). ran.stop) done.ran_is))
+    (few-stops (run_ticks board microseconds) (sound_count outputs) (picture_count outputs) (course board microseconds).stop) in
+    record {
+      samples = read-samples ran (omega (arith, bound, room, count));
+      pictures = read-pictures ran (omega (arith, few, shown));
+      stop = read-stop ran (omega (arith, stops));
+    }

@@ -1,0 +1,94 @@
+-- What colour numbers pick of a vector, vectors that are woven, and the pixels that come of both.
+use Rattle.std.proofs.Common.{◌≡◌, ◌<◌, ◌+◌, ◌*◌, ◌/◌, ◌++◌, ℕ, suc, List, [], ◌∷◌}
+use Rattle.std.proofs.Common.{length, get_or, map, take, drop, slice_index, refl, sym, ap, ◌∙◌}
+use Rattle.std.proofs.Common.{append_assoc, replicate, w8, arith}
+use Rattle.std.specs.List.{flat_map, range_with_len}
+use Rattle.std.proofs.lemmas.List.{get_or-map, length-map, ext_get_or}
+use Rattle.std.proofs.lemmas.Simd.{Each1-from_get_or, SwzOk, SwzOk-from_below, swz_l, length-swz_l, get_or-swz_l_below, pick_l_whole}
+use Rattle.std.proofs.lemmas.Grind.{flat_map-append}
+use Rattle.std.proofs.Math.Seq.{take-add}
+use lib.Lanes.{pick_l}
+use Rattle.pac_num.proofs.Tabulated.{get_or-tabulate}
+use Rattle.pac_block.specs.Host.{opaque_pixel}
+use Rattle.pac_block.specs.Woven.{coloured, woven}
+
+-- ---- what is picked
+
+pub picks : (numbers : List ℕ) → length numbers ≡ 16 → ((k : ℕ) → k < 16 → slice_index numbers k < 16) → SwzOk w8 16 16 0 numbers
+picks numbers long below =
+    SwzOk-from_below w8 16 1 16 0 numbers refl (omega (arith, long))
+    (Each1-from_get_or (λ number. number < 16) numbers 0 (λ k inside. below k (omega (arith, long, inside))))
+
+pub picked-is : (table numbers : List ℕ) → length numbers ≡ 16 → ((k : ℕ) → k < 16 → slice_index numbers k < 16)
+    → swz_l w8 16 table 0 numbers ≡ map (λ number. slice_index table number) numbers
+picked-is table numbers long below =
+    ext_get_or 0 _ _ (length-swz_l w8 16 table 0 numbers ∙ sym (length-map numbers (λ number. slice_index table number))) (λ k inside.
+    let within : k < length numbers = omega (arith, length-swz_l w8 16 table 0 numbers, inside) in
+    let small : k < 16 = omega (arith, within, long) in
+    let row : 16 * ((0 + k) / 16) ≡ 0 = omega (arith, small) in
+    get_or-swz_l_below w8 16 table 0 numbers k within (below k small)
+    ∙ (ap (λ place. get_or table place 0) (omega (arith, row))
+    ∙ sym (get_or-map (λ number. slice_index table number) numbers k 0 0 within)))
+
+-- ---- what is woven: two vectors lane by lane, in two halves
+
+abbrev half : List ℕ → List ℕ → List ℕ
+half xs ys = pick_l 0 (xs ++ ys) (0 ∷ 16 ∷ 1 ∷ 17 ∷ 2 ∷ 18 ∷ 3 ∷ 19 ∷ 4 ∷ 20 ∷ 5 ∷ 21 ∷ 6 ∷ 22 ∷ 7 ∷ 23 ∷ [])
+
+abbrev rest : List ℕ → List ℕ → List ℕ
+rest xs ys = pick_l 0 (xs ++ ys) (8 ∷ 24 ∷ 9 ∷ 25 ∷ 10 ∷ 26 ∷ 11 ∷ 27 ∷ 12 ∷ 28 ∷ 13 ∷ 29 ∷ 14 ∷ 30 ∷ 15 ∷ 31 ∷ [])
+
+abbrev by_halves : (reds greens blues : List ℕ) → List ℕ
+by_halves reds greens blues =
+    let opaque = replicate 16 255 in
+    half (half reds blues) (half greens opaque) ++ (rest (half reds blues) (half greens opaque)
+    ++ (half (rest reds blues) (rest greens opaque) ++ rest (rest reds blues) (rest greens opaque)))
+
+-- the sixteen lanes of a vector, one by one
+abbrev lanes : List ℕ → List ℕ
+lanes xs = pick_l 0 xs (range_with_len 0 16)
+
+lanes-woven : (reds greens blues : List ℕ)
+    → by_halves (lanes reds) (lanes greens) (lanes blues) ≡ woven (lanes reds) (lanes greens) (lanes blues)
+lanes-woven reds greens blues = refl
+
+pub woven-by-halves : (reds greens blues : List ℕ) → length reds ≡ 16 → length greens ≡ 16 → length blues ≡ 16
+    → by_halves reds greens blues ≡ woven reds greens blues
+woven-by-halves reds greens blues red_long green_long blue_long =
+    rw (sym (pick_l_whole 0 reds 16 red_long), sym (pick_l_whole 0 greens 16 green_long), sym (pick_l_whole 0 blues 16 blue_long))
+    (lanes-woven reds greens blues)
+
+-- ---- what is picked and woven: pixels
+
+pub woven-pixels : (reds greens blues numbers : List ℕ) → ((k : ℕ) → k < length numbers → get_or numbers k 0 < 16)
+    → woven (map (λ number. slice_index reds number) numbers) (map (λ number. slice_index greens number) numbers)
+    (map (λ number. slice_index blues number) numbers)
+    ≡ flat_map (opaque_pixel (coloured reds greens blues)) numbers
+unfolding coloured
+woven-pixels reds greens blues [] below = refl
+woven-pixels reds greens blues (number ∷ numbers) below =
+    let of_number : ℕ → List ℕ = λ n. slice_index reds n ∷ slice_index greens n ∷ slice_index blues n ∷ [] in
+    let colour = get_or-tabulate 16 of_number number [] (below 0 (omega arith)) in
+    let more = woven-pixels reds greens blues numbers (λ k inside. below (suc k) (omega (arith, inside))) in
+    rw (colour, more) refl
+
+-- four parts that follow one another
+pub four-parts : (at : ℕ) (old one two three four a b c d : List ℕ) → take (at + 16) one ≡ take at old ++ a
+    → take (at + 16 + 16) two ≡ take (at + 16) one ++ b → take (at + 32 + 16) three ≡ take (at + 32) two ++ c
+    → take (at + 48 + 16) four ≡ take (at + 48) three ++ d
+    → take (at + 64) four ≡ take at old ++ (a ++ (b ++ (c ++ d)))
+four-parts at old one two three four a b c d first second third fourth =
+    let head = take at old in
+    let two_is : take (at + 32) two ≡ (head ++ a) ++ b =
+    ap (λ place. take place two) (omega arith) ∙ (second ∙ ap (λ part. part ++ b) first) in
+    let three_is : take (at + 48) three ≡ ((head ++ a) ++ b) ++ c =
+    ap (λ place. take place three) (omega arith) ∙ (third ∙ ap (λ part. part ++ c) two_is) in
+    ap (λ place. take place four) (omega arith)
+    ∙ (fourth ∙ (ap (λ part. part ++ d) three_is
+    ∙ (append_assoc ((head ++ a) ++ b) c d
+    ∙ (append_assoc (head ++ a) b (c ++ d) ∙ append_assoc head a (b ++ (c ++ d))))))
+
+-- sixteen elements more
+pub sixteen-more : {Y : Type 0} (f : ℕ → List Y) (xs : List ℕ) (at : ℕ)
+    → flat_map f (take at xs) ++ flat_map f (take 16 (drop at xs)) ≡ flat_map f (take (at + 16) xs)
+sixteen-more f xs at = sym (flat_map-append f (take at xs) (take 16 (drop at xs))) ∙ ap (flat_map f) (sym (take-add at 16 xs))

@@ -1,0 +1,23 @@
+-- The block of the board at power-on: zeros with its front.
+use Rattle.std.proofs.Common.{List, ℕ, ◌++◌, drop, refl, ap, ◌∙◌}
+use Rattle.pac_board.specs.State.{power_on_board}
+use Rattle.pac_state.specs.Reading.{lines_of, picture_in}
+use Rattle.pac_state.proofs.Fronts.{front-of-zeros, lines-of-zeros}
+use Rattle.pac_block.specs.Host.{set_of_roms}
+use Rattle.pac_block.proofs.Becoming.{block-of}
+use Rattle.pac_block.proofs.calls.init.Goals as goal
+
+pub power_on_front-front-requires : goal.power_on_front-front-requires
+power_on_front-front-requires c =
+    c.block_lines.ensures ∙ ap (λ (bytes : List ℕ). lines_of (picture_in bytes)) c.clear.ensures ∙ lines-of-zeros
+
+pub returns : goal.returns
+returns c =
+    let state = (power_on_board (set_of_roms c.args.roms.now) c.args.switches).state in
+    let front = c.power_on_front-front.ensures (set_of_roms c.args.roms.now) in
+    record {
+      roms_are = c.in_ok-check_roms.ensures;
+      board = block-of state _ front.is_state (c.put_front.ensures
+          ∙ ap (λ (old : List ℕ). c.power_on_front-front.result ++ drop 3224 old) c.clear.ensures
+          ∙ front-of-zeros c.power_on_front-front.result state front refl);
+    }

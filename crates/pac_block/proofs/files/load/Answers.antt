@@ -1,0 +1,40 @@
+-- The block of the file's board, whose set is that of these ROMs.
+use Rattle.std.proofs.Common.{ℕ, refl, ap, sym, ◌∙◌}
+use Rattle.pac_board.specs.Fields.{state_of}
+use Rattle.pac_roms_manifest.specs.Sets.{digest_of}
+use Rattle.pac_state.specs.Block.{block_text}
+use Rattle.pac_state.proofs.Taken.{size-of}
+use Rattle.pac_block.specs.Host.{set_of_roms}
+use Rattle.pac_block.specs.Passed.{upgraded_state}
+use Rattle.pac_block.proofs.Loaded.{loaded, not-loaded}
+use Rattle.pac_block.proofs.files.load.Goals as goal
+
+pub fields_have_states-requires : goal.fields_have_states-requires
+fields_have_states-requires c = (c.in-Ok.ensures (set_of_roms c.args.roms.now) (sym c.digest.ensures)).in_range
+
+pub write_block-requires : goal.write_block-requires
+write_block-requires c = (c.in-Ok.ensures (set_of_roms c.args.roms.now) (sym c.digest.ensures)).in_range
+
+pub bring_up-requires-clause-in_range : goal.bring_up-requires-clause-in_range
+bring_up-requires-clause-in_range c = (c.in-Ok.ensures (set_of_roms c.args.roms.now) (sym c.digest.ensures)).in_range
+
+pub file_version-requires : goal.file_version-requires
+file_version-requires c =
+    size-of (digest_of (set_of_roms c.args.roms.now)) c.args.text.now
+    (c.in-Ok.ensures (set_of_roms c.args.roms.now) (sym c.digest.ensures)).sound
+
+pub returns-in-Ok : goal.returns-in-Ok
+returns-in-Ok c =
+    let set = set_of_roms c.args.roms.now in
+    loaded c.args.roms.now c.args.text.now _ c.in-Ok.fields c.in_ok-check_roms.ensures (λ i. (c.type_inv.text i).fits)
+    (c.in-Ok.ensures set (sym c.digest.ensures)) c.fields_have_states.ensures
+    (c.bring_up.ensures
+    ∙ ap (λ (version : ℕ). block_text (upgraded_state set version (state_of c.in-Ok.fields))) c.file_version.ensures)
+
+pub returns-in-Err : goal.returns-in-Err
+returns-in-Err c =
+    let set = set_of_roms c.args.roms.now in (
+      not-loaded c.args.roms.now c.args.text.now c.in-Err.fault c.in_ok-check_roms.ensures (λ i. (c.type_inv.text i).fits)
+          (c.in-Err.ensures set (sym c.digest.ensures)),
+      refl,
+    )

@@ -1,0 +1,15 @@
+-- The file fills the buffer, which has its size.
+use Rattle.std.proofs.Common.{refl, sym, ◌∙◌}
+use Rattle.pac_board.specs.Fields.{state_of}
+use Rattle.pac_state.specs.Text.{body, sealed_file, written_version}
+use Rattle.pac_state.proofs.Fronts.{file-size}
+use Rattle.pac_block.proofs.Filling.{filled}
+use Rattle.pac_block.proofs.files.put_file.Goals as goal
+
+pub returns : goal.returns
+returns c =
+    let state = state_of c.args.fields.now in
+    let digest = c.args.digest.now in
+    let size = file-size digest state c.told-digest c.fields_have_states.ensures in
+    filled (sealed_file (body written_version digest state)) c.save_fields.result _ c.save_fields.new.out _ refl
+    (size ∙ sym c.requires.size) c.save_fields.ensures assumption

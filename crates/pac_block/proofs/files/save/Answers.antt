@@ -1,0 +1,23 @@
+-- The file of the board that these ROMs and the block make.
+use Rattle.std.proofs.Common.{ap, ◌∙◌, arith}
+use Rattle.pac_board.specs.Fields.{state_of}
+use Rattle.pac_board.specs.State.{BoardState}
+use Rattle.pac_roms_manifest.specs.Sets.{digest_of}
+use Rattle.pac_state.specs.Text.{body, sealed_file, written_version}
+use Rattle.pac_block.specs.Host.{set_of_roms}
+use Rattle.pac_block.proofs.files.save.Goals as goal
+
+pub put_file-requires-clause-in_range : goal.put_file-requires-clause-in_range
+put_file-requires-clause-in_range c = c.in_ok-fields.ensures.in_range
+
+pub returns : goal.returns
+returns c =
+    let opened = c.in_ok-fields.ensures in
+    record {
+      roms_are = c.in_ok-check_roms.ensures;
+      size = omega (arith, c.if-text-ne-FILE_SIZE.false);
+      block_is = opened.is_block;
+      saved = c.put_file.ensures
+          ∙ ap (λ digest. sealed_file (body written_version digest (state_of c.in_ok-fields.fields))) c.digest.ensures
+          ∙ ap (λ (state : BoardState). sealed_file (body written_version (digest_of (set_of_roms c.args.roms.now)) state)) opened.state;
+    }

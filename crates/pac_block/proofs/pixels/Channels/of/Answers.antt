@@ -1,0 +1,16 @@
+use Rattle.std.proofs.Common.{◌<◌, refl, arith}
+use Rattle.pac_num.proofs.Tabulated.{tabulate-same}
+use Rattle.pac_board.specs.PictureState.{palette_of}
+use Rattle.pac_block.specs.Woven.{coloured}
+use Rattle.pac_block.proofs.pixels.Channels.of.Goals as goal
+
+pub returns : goal.returns
+unfolding palette_of coloured
+returns c =
+    let kept = c.loop-number.invariant in
+    tabulate-same 16 _ _ (λ number below.
+    let done : number < c.loop-number.number = omega (arith, below, c.loop-number-test.false) in
+    let red = kept.red number done in
+    let green = kept.green number done in
+    let blue = kept.blue number done in
+    rw (red, green, blue) refl)

@@ -1,0 +1,13 @@
+use Rattle.std.proofs.Common.{◌≡◌, ◌<◌, ℕ, length, get_or, slice_index}
+use Rattle.pac_colour.specs.Colours.{rgb_of}
+use Rattle.pac_block.proofs.pixels.Channels.of.Given as goal
+
+abbrev pub invariant-loop-number : goal.invariant-loop-number
+invariant-loop-number l = record {
+  red_long : length l.reds ≡ 16;
+  green_long : length l.greens ≡ 16;
+  blue_long : length l.blues ≡ 16;
+  red : (n : ℕ) → n < l.number → get_or l.reds n 0 ≡ slice_index (rgb_of (slice_index l.colours n)) 0;
+  green : (n : ℕ) → n < l.number → get_or l.greens n 0 ≡ slice_index (rgb_of (slice_index l.colours n)) 1;
+  blue : (n : ℕ) → n < l.number → get_or l.blues n 0 ≡ slice_index (rgb_of (slice_index l.colours n)) 2;
+}

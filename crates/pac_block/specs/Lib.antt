@@ -1,0 +1,9 @@
+pub mod Codes
+pub mod Handed
+pub mod Host
+pub mod HostLaws
+pub mod RoomLaws
+pub mod Films
+pub mod Sounding
+pub mod Woven
+pub mod Passed

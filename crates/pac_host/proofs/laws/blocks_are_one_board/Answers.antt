@@ -1,5 +1,0 @@
-use Rattle.pac_host.proofs.OneBoard.{blocks-are-one-board}
-use Rattle.pac_host.proofs.laws.blocks_are_one_board.Goals as goal
-
-pub returns : goal.returns
-returns c = blocks-are-one-board

@@ -1,5 +1,0 @@
-use Rattle.pac_host.proofs.Films.{hosts-play-the-film}
-use Rattle.pac_host.proofs.laws.hosts_play_the_film.Goals as goal
-
-pub returns : goal.returns
-returns c = hosts-play-the-film

@@ -1,5 +1,0 @@
-use Rattle.pac_host.proofs.OneStep.{one-step-at-most}
-use Rattle.pac_host.proofs.laws.one_step_at_most.Goals as goal
-
-pub returns : goal.returns
-returns c = one-step-at-most

@@ -1,5 +1,0 @@
-use Rattle.pac_host.proofs.TimeParts.{stops-met-again}
-use Rattle.pac_host.proofs.laws.stops_are_met_again.Goals as goal
-
-pub returns : goal.returns
-returns c = stops-met-again

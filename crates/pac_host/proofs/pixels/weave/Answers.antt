@@ -1,5 +1,0 @@
-use Rattle.pac_host.proofs.Woven.{woven-by-halves}
-use Rattle.pac_host.proofs.pixels.weave.Goals as goal
-
-pub returns : goal.returns
-returns c = woven-by-halves c.args.red c.args.green c.args.blue c.fits-red.0 c.fits-green.0 c.fits-blue.0

@@ -1,6 +1,0 @@
-use Rattle.pac_host.specs.Host.{set_of_roms}
-use Rattle.pac_host.proofs.roms.program_of.Goals as goal
-
-pub returns : goal.returns
-unfolding set_of_roms
-returns c = c.chunk.ensures
