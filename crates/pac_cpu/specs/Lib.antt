@@ -16,4 +16,5 @@ pub use Rattle.pac_exec.specs.declared.regs.Regs
 pub use Rattle.pac_exec.specs.declared.reads.DataReads
 pub use Rattle.pac_exec.specs.declared.reads.DataReads.TheVariants as DataReadsVariants
 pub use Rattle.pac_exec.specs.CellsRead
+pub use Rattle.pac_exec.specs.CellsReadProofs
 pub use Rattle.pac_bus.specs.ActionLaws

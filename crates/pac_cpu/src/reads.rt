@@ -1,7 +1,7 @@
 //! The cells of memory that a step reads as data.
 
-ghost use Rattle.std.specs.Prelude.{◌≡◌, Some};
-ghost use Rattle.pac_exec.specs.CellsRead.{cells_of};
+ghost use Rattle.std.specs.Prelude.{◌≡◌};
+ghost use Rattle.pac_exec.specs.CellsReadProofs.{read_cells};
 ghost use Rattle.pac_cpu.specs.StepReads as step;
 
 use crate::once::{Once, StepKind};
@@ -11,7 +11,7 @@ use pac_table::InterruptMode;
 /// What an interrupt's acceptance reads, by the registers before it.
 #[inline]
 fn acceptance_reads(before: &Regs, vector: u8) -> DataReads
-    ensures { cells_of result ≡ step.acceptance_reads before.now.mode before.now vector }
+    ensures { read_cells result ≡ step.acceptance_reads before.now.mode before.now vector }
 {
     match before.mode {
         InterruptMode::Zero | InterruptMode::One => DataReads::Nothing,
@@ -22,7 +22,7 @@ fn acceptance_reads(before: &Regs, vector: u8) -> DataReads
 /// What a step of this kind reads, by the registers before it and the request that it was handed.
 #[inline]
 fn kind_reads(kind: &StepKind, before: &Regs, request: Option<u8>) -> DataReads
-    ensures { cells_of result ≡ step.kind_reads kind.now before.now request }
+    ensures { read_cells result ≡ step.kind_reads kind.now before.now request }
 {
     match (kind, request) {
         (StepKind::Ran(instr), _) => data_reads(instr, before),
@@ -36,7 +36,7 @@ impl Once {
     /// fetched is not among them, and what a stop tells isn't.
     #[inline]
     pub fn data_reads(&self, before: &Regs, request: Option<u8>) -> DataReads
-        ensures { cells_of result ≡ step.reads_in self.now before.now request }
+        ensures { read_cells result ≡ step.reads_in self.now before.now request }
     {
         match self {
             Once::Stepped { kind, .. } => kind_reads(kind, before, request),

@@ -2,6 +2,7 @@
 
 ghost use Rattle.std.specs.Prelude.{◌≡◌};
 ghost use Rattle.pac_exec.specs.CellsRead as reads;
+ghost use Rattle.pac_exec.specs.CellsReadProofs.{read_cells};
 
 use crate::jumps::meets_condition;
 use crate::places::address;
@@ -26,7 +27,7 @@ pub enum DataReads {
 /// The cell of a place that is in memory.
 #[inline]
 fn place_reads(place: BytePlace, instr: &Instr, regs: &Regs) -> DataReads
-    ensures { reads.cells_of result ≡ reads.place_cells place instr.now regs.now }
+    ensures { read_cells result ≡ reads.place_cells place instr.now regs.now }
 {
     match place {
         BytePlace::First | BytePlace::Second | BytePlace::Accumulator | BytePlace::Immediate =>
@@ -39,7 +40,7 @@ fn place_reads(place: BytePlace, instr: &Instr, regs: &Regs) -> DataReads
 #[inline]
 #[tactic(auto, unfolding(crate::specs::CellsRead::reads_by))]
 fn byte_load_reads(with: ByteLoad, instr: &Instr, regs: &Regs) -> DataReads
-    ensures { reads.cells_of result ≡ reads.reads_by (Effect.ByteLoad with) instr.now regs.now }
+    ensures { read_cells result ≡ reads.reads_by (Effect.ByteLoad with) instr.now regs.now }
 {
     match with {
         ByteLoad::Load(_, from) => place_reads(from, instr, regs),
@@ -51,7 +52,7 @@ fn byte_load_reads(with: ByteLoad, instr: &Instr, regs: &Regs) -> DataReads
 #[inline]
 #[tactic(auto, unfolding(crate::specs::CellsRead::reads_by))]
 fn word_load_reads(with: WordLoad, instr: &Instr, regs: &Regs) -> DataReads
-    ensures { reads.cells_of result ≡ reads.reads_by (Effect.WordLoad with) instr.now regs.now }
+    ensures { read_cells result ≡ reads.reads_by (Effect.WordLoad with) instr.now regs.now }
 {
     match with {
         WordLoad::LoadPairFromMemory(_) => Word(instr.word()),
@@ -67,7 +68,7 @@ fn word_load_reads(with: WordLoad, instr: &Instr, regs: &Regs) -> DataReads
 #[inline]
 #[tactic(auto, unfolding(crate::specs::CellsRead::reads_by))]
 fn exchange_reads(with: Exchange, instr: &Instr, regs: &Regs) -> DataReads
-    ensures { reads.cells_of result ≡ reads.reads_by (Effect.Exchange with) instr.now regs.now }
+    ensures { read_cells result ≡ reads.reads_by (Effect.Exchange with) instr.now regs.now }
 {
     match with {
         Exchange::StackTop(_) => Word(regs.sp),
@@ -79,7 +80,7 @@ fn exchange_reads(with: Exchange, instr: &Instr, regs: &Regs) -> DataReads
 #[inline]
 #[tactic(auto, unfolding(crate::specs::CellsRead::reads_by))]
 fn byte_arithmetic_reads(with: ByteArithmetic, instr: &Instr, regs: &Regs) -> DataReads
-    ensures { reads.cells_of result ≡ reads.reads_by (Effect.ByteArithmetic with) instr.now regs.now }
+    ensures { read_cells result ≡ reads.reads_by (Effect.ByteArithmetic with) instr.now regs.now }
 {
     match with {
         ByteArithmetic::Alu(place)
@@ -97,7 +98,7 @@ fn byte_arithmetic_reads(with: ByteArithmetic, instr: &Instr, regs: &Regs) -> Da
 #[inline]
 #[tactic(auto, unfolding(crate::specs::CellsRead::reads_by))]
 fn rotate_and_shift_reads(with: RotateAndShift, instr: &Instr, regs: &Regs) -> DataReads
-    ensures { reads.cells_of result ≡ reads.reads_by (Effect.RotateAndShift with) instr.now regs.now }
+    ensures { read_cells result ≡ reads.reads_by (Effect.RotateAndShift with) instr.now regs.now }
 {
     match with {
         RotateAndShift::Shift(place) => place_reads(place, instr, regs),
@@ -110,7 +111,7 @@ fn rotate_and_shift_reads(with: RotateAndShift, instr: &Instr, regs: &Regs) -> D
 #[inline]
 #[tactic(auto, unfolding(crate::specs::CellsRead::reads_by))]
 fn bit_operation_reads(with: BitOperation, instr: &Instr, regs: &Regs) -> DataReads
-    ensures { reads.cells_of result ≡ reads.reads_by (Effect.BitOperation with) instr.now regs.now }
+    ensures { read_cells result ≡ reads.reads_by (Effect.BitOperation with) instr.now regs.now }
 {
     match with {
         BitOperation::Test(place) | BitOperation::Reset(place) | BitOperation::Set(place) => {
@@ -123,7 +124,7 @@ fn bit_operation_reads(with: BitOperation, instr: &Instr, regs: &Regs) -> DataRe
 #[inline]
 #[tactic(auto, unfolding(crate::specs::CellsRead::reads_by))]
 fn return_if_reads(instr: &Instr, regs: &Regs) -> DataReads
-    ensures { reads.cells_of result ≡ reads.reads_by (Effect.Call Call.ReturnIf) instr.now regs.now }
+    ensures { read_cells result ≡ reads.reads_by (Effect.Call Call.ReturnIf) instr.now regs.now }
 {
     if meets_condition(instr, regs) {
         Word(regs.sp)
@@ -136,7 +137,7 @@ fn return_if_reads(instr: &Instr, regs: &Regs) -> DataReads
 #[inline]
 #[tactic(auto, unfolding(crate::specs::CellsRead::reads_by))]
 fn call_reads(with: Call, instr: &Instr, regs: &Regs) -> DataReads
-    ensures { reads.cells_of result ≡ reads.reads_by (Effect.Call with) instr.now regs.now }
+    ensures { read_cells result ≡ reads.reads_by (Effect.Call with) instr.now regs.now }
 {
     match with {
         Call::Return | Call::ReturnFromInterrupt | Call::ReturnFromNonMaskable => Word(regs.sp),
@@ -148,7 +149,7 @@ fn call_reads(with: Call, instr: &Instr, regs: &Regs) -> DataReads
 /// What a step of a block instruction reads.
 #[inline]
 fn block_reads(operation: BlockOperation, regs: &Regs) -> DataReads
-    ensures { reads.cells_of result ≡ reads.block_reads operation regs.now }
+    ensures { read_cells result ≡ reads.block_reads operation regs.now }
 {
     match operation {
         BlockOperation::Load | BlockOperation::Compare | BlockOperation::Output => Byte(regs.hl()),
@@ -161,7 +162,7 @@ fn block_reads(operation: BlockOperation, regs: &Regs) -> DataReads
 #[inline]
 #[tactic(auto, unfolding(crate::specs::CellsRead::reads_by))]
 pub fn data_reads(instr: &Instr, regs: &Regs) -> DataReads
-    ensures { reads.cells_of result ≡ reads.reads_of instr.now regs.now }
+    ensures { read_cells result ≡ reads.reads_of instr.now regs.now }
 {
     match instr.effect() {
         Effect::ByteLoad(with) => byte_load_reads(with, instr, regs),
