@@ -7,8 +7,8 @@ use Rattle.pac_cpu.specs.ActionLaws.{bus_after_actions}
 use Rattle.pac_cpu.specs.Regs.{Regs}
 use Rattle.pac_cpu.specs.Step.{Surroundings, CpuStep, Steps, Stops, cpu_step, halted_step}
 use Rattle.pac_cpu.specs.StepReads.{reads_in}
-use Rattle.pac_cpu.specs.StepLaws.{surroundings_of}
-use Rattle.pac_cpu.specs.StepProofs.{DoesCpuStep, actions_of, once_of_step}
+use Rattle.pac_cpu.specs.StepLaws.{surroundings_of, once_of_step}
+use Rattle.pac_cpu.specs.StepProofs.{DoesCpuStep, actions_of}
 use Rattle.pac_cpu.specs.declared.once.Once.{Once}
 use Rattle.pac_cpu.specs.declared.once.Once.TheVariants.{Stepped, Stopped}
 use Rattle.pac_cpu.specs.declared.once.Stop.{Stop}

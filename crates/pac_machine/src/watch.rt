@@ -1,11 +1,12 @@
 //! What steps do at addresses that are watched: writes, and reads of data.
 
-ghost use Rattle.std.specs.Prelude.{◌≡◌, ◌≤◌, ℕ, List, Option, None, Some, is_some};
+ghost use Rattle.std.specs.Prelude.{◌≡◌, ◌≤◌, ◌∷◌, ℕ, List, [], Option, None, Some, is_some};
 ghost use Rattle.pac_cpu.specs.Instructions.{least_ticks, most_ticks};
 ghost use Rattle.pac_cpu.specs.Step.{cpu_step};
 ghost use Rattle.pac_cpu.specs.StepLaws.{surroundings_of};
 ghost use Rattle.pac_cpu.specs.StepProofs.{DoesCpuStep, IfStepped, actions_of};
-ghost use Rattle.pac_cpu.specs.CellsRead.{cells_of};
+ghost use Rattle.pac_cpu.specs.CellsReadProofs.{cells_of};
+ghost use Rattle.pac_cpu.specs.StepReads.{reads_in};
 ghost use Rattle.pac_map.specs.ContentsProofs.{map_byte_at, map_input_at, map_after_action};
 ghost use Rattle.pac_cpu.specs.Action.{Write};
 ghost use Rattle.pac_machine.specs.declared.watch.Access.{Access};
@@ -13,7 +14,7 @@ ghost use Rattle.pac_machine.specs.Watches.{first_of, first_read, first_write, w
 ghost use Rattle.pac_machine.specs.WatchesProofs.{looked_at, watched_byte_at, watched_input_at, watched_after_action};
 
 use crate::stops::Marks;
-use pac_cpu::{Bus, Cpu, DataReads, Once};
+use pac_cpu::{Bus, Cpu, DataReads, Once, Regs};
 use pac_map::Map;
 
 /// What a step did at an address that is watched.
@@ -145,6 +146,23 @@ fn first_read(marks: &Marks, cells: DataReads) -> Option<Access>
     }
 }
 
+/// What a step did at watched addresses: the write that its bus kept, or else its first read there, by the registers before it.
+#[inline(always)]
+fn written_or_read(
+    written: Option<Access>,
+    marks: &Marks,
+    once: &Once,
+    before: &Regs,
+    request: Option<u8>,
+) -> Option<Access>
+    ensures { result ≡ first_of written (first_read (Some marks.now) (reads_in once.now before.now request)) }
+{
+    match written {
+        Some(met) => Some(met),
+        None => first_read(marks, once.data_reads(before, request)),
+    }
+}
+
 impl Watch for WatchedAddresses<'_> {
     ghost marks = { λ watching. Some watching.marks.now };
 
@@ -160,10 +178,7 @@ impl Watch for WatchedAddresses<'_> {
             met: self.met,
         };
         let once = bus.step(cpu, request);
-        self.met = match bus.met {
-            Some(met) => Some(met),
-            None => first_read(self.marks, once.data_reads(&before, request)),
-        };
+        self.met = written_or_read(bus.met, self.marks, &once, &before, request);
         once
     }
 
