@@ -153,9 +153,9 @@ goes-free to start limit stops sink (Err refusal) new later none gone = gone
 
 -- what a loop says of its steps: they are told, they pass by the addresses where they are to stop, and what they did at those that are watched
 pub record HasPassed (limit : ℕ) (stops marks : Option (List ℕ)) (old new : BoardValue) (met : Option Access)
-    (told after : Option (List PastStep))
+    (first after : Option (List PastStep))
     : Type 0 where
-  pub told : IsTold old limit new told after
+  pub told : IsTold old limit new first after
   pub passes : BoardPasses stops old new
   pub watched : BoardWatched marks old new met
 
@@ -167,12 +167,12 @@ met-nothing marks old new met steps none =
     (watched-first old.set marks (step (by_view old.set)) old.state.now new.state.now.steps steps)
 
 -- a stretch after others
-pub passed-further : {limit : ℕ} {stops marks marks_there : Option (List ℕ)} {old mid new : BoardValue} {met : Option Access}
-    {told between after : Option (List PastStep)} → mid.set ≡ old.set → marks_there ≡ marks → IsTold old limit mid told between
+pub passed-further : (old mid new : BoardValue) (limit : ℕ) (stops marks : Option (List ℕ)) {marks_there : Option (List ℕ)}
+    {met : Option Access} {told between after : Option (List PastStep)} → mid.set ≡ old.set → marks_there ≡ marks → IsTold old limit mid told between
     → PassesBy (step (by_view old.set)) stops old.state.now (mid.state.now.steps + 1) → BoardWatched marks old mid None
     → IsTold mid limit new between after → BoardPasses stops mid new → BoardWatched marks_there mid new met
     → HasPassed limit stops marks old new met told after
-passed-further {limit} {stops} {marks} {marks_there} {old} {mid} {new} {met} {told} {between} {after} set same one passed quiet two passes
+passed-further old mid new limit stops marks {marks_there} {met} {told} {between} {after} set same one passed quiet two passes
     watched =
     let so_many = two.steps in
     record {

@@ -5,7 +5,7 @@ ghost use Rattle.pac_cpu.specs.Instructions.{least_ticks, most_ticks};
 ghost use Rattle.pac_cpu.specs.Step.{cpu_step};
 ghost use Rattle.pac_cpu.specs.StepLaws.{surroundings_of};
 ghost use Rattle.pac_cpu.specs.StepProofs.{DoesCpuStep, IfStepped, actions_of};
-ghost use Rattle.pac_cpu.specs.CellsReadProofs.{cells_of};
+ghost use Rattle.pac_cpu.specs.CellsReadProofs.{read_cells};
 ghost use Rattle.pac_cpu.specs.StepReads.{reads_in};
 ghost use Rattle.pac_map.specs.ContentsProofs.{map_byte_at, map_input_at, map_after_action};
 ghost use Rattle.pac_cpu.specs.Action.{Write};
@@ -134,7 +134,7 @@ fn read_at(marks: &Marks, address: u16) -> Option<Access>
 /// The first of these cells whose reads are watched.
 #[inline(always)]
 fn first_read(marks: &Marks, cells: DataReads) -> Option<Access>
-    ensures { result ≡ first_read (Some marks.now) (cells_of cells) }
+    ensures { result ≡ first_read (Some marks.now) (read_cells cells) }
 {
     match cells {
         DataReads::Nothing => None,

@@ -19,7 +19,9 @@ returns-in_err-met g c =
     let one = c.in_err-met.ensures in
     let same = ap (λ (b : BoardValue). b.set) was.made.board_is in
     let failed = err_from_is_err_and c.from_residual.result c.from_residual.ensures.1 in
-    let on = passed-further same was.marks was.told was.passes was.watched one.told one.passes one.watched in
+    let on =
+    passed-further c.args.self.now c.loop-self.self c.stretch.new.self c.args.limit c.args.stops.now (g.W.Watch.marks c.args.watch.now) same
+    was.marks was.told was.passes was.watched one.told one.passes one.watched in
     record { made = rw failed.1 (stretch-refused was.made one.made); told = on.told; passes = on.passes; watched = on.watched }
 
 pub returns-in-Some : goal.returns-in-Some
@@ -27,7 +29,9 @@ returns-in-Some g c =
     let was = c.loop-self.invariant in
     let one = c.in_ok-met.ensures in
     let same = ap (λ (b : BoardValue). b.set) was.made.board_is in
-    let on = passed-further same was.marks was.told was.passes was.watched one.told one.passes one.watched in
+    let on =
+    passed-further c.args.self.now c.loop-self.self c.stretch.new.self c.args.limit c.args.stops.now (g.W.Watch.marks c.args.watch.now) same
+    was.marks was.told was.passes was.watched one.told one.passes one.watched in
     record {
       made = gone-to-limit _ (stretch-stops was.made one.made c.in-Some.is);
       told = on.told;
@@ -48,7 +52,9 @@ loop-self-preserved g c =
     let same = ap (λ (b : BoardValue). b.set) was.made.board_is in
     let longer = stretch-longer was.made one.made c.in_default.is in
     let so_far = was.after in
-    let on = passed-further same was.marks was.told was.passes was.watched one.told one.passes one.watched in
+    let on =
+    passed-further c.args.self.now c.loop-self.self c.stretch.new.self c.args.limit c.args.stops.now (g.W.Watch.marks c.args.watch.now) same
+    was.marks was.told was.passes was.watched one.told one.passes one.watched in
     let none = none-met _ (sym c.has_met.ensures ∙ c.if-has_met.false) in
     record {
       made = stretch-goes-on was.made one.made c.in_default.is;
@@ -68,7 +74,9 @@ returns-then-has_met g c =
     let same = ap (λ (b : BoardValue). b.set) was.made.board_is in
     let longer = stretch-longer was.made one.made c.in_default.is in
     let so_far = was.after in
-    let on = passed-further same was.marks was.told was.passes was.watched one.told one.passes one.watched in
+    let on =
+    passed-further c.args.self.now c.loop-self.self c.stretch.new.self c.args.limit c.args.stops.now (g.W.Watch.marks c.args.watch.now) same
+    was.marks was.told was.passes was.watched one.told one.passes one.watched in
     record {
       made = gone-to-access (stretch-goes-on was.made one.made c.in_default.is) c.args.stops.now _
           (sym c.has_met.ensures ∙ c.if-has_met.true) (omega arith);
@@ -84,7 +92,9 @@ returns-then-has g c =
     let same = ap (λ (b : BoardValue). b.set) was.made.board_is in
     let longer = stretch-longer was.made one.made c.in_default.is in
     let so_far = was.after in
-    let on = passed-further same was.marks was.told was.passes was.watched one.told one.passes one.watched in
+    let on =
+    passed-further c.args.self.now c.loop-self.self c.stretch.new.self c.args.limit c.args.stops.now (g.W.Watch.marks c.args.watch.now) same
+    was.marks was.told was.passes was.watched one.told one.passes one.watched in
     record {
       made = gone-to-stop (stretch-goes-on was.made one.made c.in_default.is) c.args.stops.now _
           (none-met _ (sym c.has_met.ensures ∙ c.if-has_met.false)) (omega arith) (search rules);

@@ -14,6 +14,6 @@ returns-clause-met c = λ none.
     let regs = c.args.cpu.now in
     let seen = surroundings_of map_byte_at map_input_at map_after_action c.args.map.now in
     let step = c.step-once.ensures in
-    c.written_or_read.ensures
+    c.written_or_read-self.ensures
     ∙ (λ i. first_of (step.met none i) (first_read marks (reads_in (step.did.once i) (c.regs-before.ensures i) c.args.request)))
     ∙ sym (read-after seen marks regs c.args.request (cpu_step seen regs c.args.request))
