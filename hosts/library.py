@@ -97,11 +97,11 @@ def kit():
     return pathlib.Path(shutil.which("rt") or "rt").resolve().parent.parent
 
 
-def lay_kit(flags, to, kept, target=""):
+def lay_kit(flags, to, kept, target="", edit=None):
     """Lays a copy of the kit into a folder, its files by links, whose C compiler gets these flags too, and answers the copy's `rt`.
 
     The copy proves the same, and hands the compiler the same program, as LLVM's bitcode, which is kept in a file; the flags say which
-    instructions of the processor it may use. A target is another processor for which the copy checks and compiles: `rattle` knows it, but `rt`
+    instructions of the processor it may use, and a script may edit the bitcode before. A target is another processor for which the copy checks and compiles: `rattle` knows it, but `rt`
     hands on none besides a page's.
     """
     whole, compiler = kit(), "toolchain/bin/clang"
@@ -117,7 +117,9 @@ def lay_kit(flags, to, kept, target=""):
         elif str(name) not in ("bin", "toolchain", "toolchain/bin", compiler):
             (to / name).symlink_to(file)
     keep = f"[ ! -f module.bc ] || cp module.bc {shlex.quote(str(kept))}"
-    (to / compiler).write_text(f'#!/bin/sh\n{keep}\nexec {shlex.quote(str(whole / compiler))} "$@" {shlex.join(flags)}\n')
+    clang = shlex.quote(str(whole / compiler))
+    edited = f"[ ! -f module.bc ] || {shlex.join([sys.executable, str(edit)])} {clang} module.bc || exit" if edit else ":"
+    (to / compiler).write_text(f'#!/bin/sh\n{keep}\n{edited}\nexec {clang} "$@" {shlex.join(flags)}\n')
     (to / compiler).chmod(0o755)
     return to / "bin/rt"
 
@@ -189,10 +191,10 @@ def jobs(proof):
     return ["--jobs", "1"] if proof.is_of_ci else []
 
 
-def build(name, kind, file, to, proof, flags=(), swapped="", lay=None, target=""):
+def build(name, kind, file, to, proof, flags=(), swapped="", lay=None, target="", edit=None):
     """Builds a library as a crate of this kind, in a copy of it and of all below it, and takes the file that it leaves.
 
-    The flags are for the compiler. What an earlier build of either kind has checked, and nothing has changed since, isn't checked again. Beside
+    The flags are for the compiler, and the script for the bitcode that it gets. What an earlier build of either kind has checked, and nothing has changed since, isn't checked again. Beside
     the file, with the end .bc, stands the bitcode of which the compiler made it. A crate that is swapped may declare functions of C, and all
     crates above it are proved over it there. A target is that of another processor.
     """
@@ -207,7 +209,7 @@ def build(name, kind, file, to, proof, flags=(), swapped="", lay=None, target=""
             shutil.rmtree(built, ignore_errors=True)  # (what was proved over the crate that was swapped isn't so here)
             take_kept(place, crate, built)
         (OUT / to).parent.mkdir(parents=True, exist_ok=True)
-        rt = lay_kit(flags, folder / "kit", (OUT / to).with_suffix(".bc"), target)
+        rt = lay_kit(flags, folder / "kit", (OUT / to).with_suffix(".bc"), target, edit)
         run(rt, folder / "crates" / name, "lib", *jobs(proof), declaring=swapped)
         shutil.copy(folder / "crates" / name / "out" / file.format(name), OUT / to)
         for crate in crates_kept:

@@ -58,6 +58,12 @@ enum {
     PAC_SWITCHES = 0xC9,      /* the byte of the DIP switches that `pacboard run` takes where none is given */
 };
 
+/* The order of a pixel's bytes, where it is asked for. */
+enum {
+    PAC_RGBA = 0, /* red, green, blue and 255 */
+    PAC_BGRA = 1, /* blue, green, red and 255; as any other number */
+};
+
 /* The inputs, each a bit of a mask: what the names of a script stand for. */
 enum {
     PAC_P1_UP = 1,
@@ -323,9 +329,10 @@ uint32_t pac_live_peek(pac_live *live, uint16_t address, uint8_t *bytes, size_t 
 /* Tells the registers. PAC_CLOSED. */
 uint32_t pac_live_registers(pac_live *live, pac_registers *registers);
 
-/* Draws the picture as it stands: as `pac_draw`. PAC_CLOSED.
- * PAC_LENGTH: `rgba_length` isn't PAC_RGBA_SIZE. */
-uint32_t pac_live_draw(pac_live *live, uint8_t *rgba, size_t rgba_length);
+/* Draws the picture as it stands, each pixel by four bytes in this order: 0 is red, green, blue and 255, as `pac_draw` has them, and any
+ * other number blue, green, red and 255. PAC_CLOSED.
+ * PAC_LENGTH: `pixels_length` isn't PAC_RGBA_SIZE. */
+uint32_t pac_live_draw(pac_live *live, uint8_t order, uint8_t *pixels, size_t pixels_length);
 
 /* Gives the picture as it stands by its colour numbers, 0 to 15: 224 rows from the top, each of 288 from the left. And the colours of the
  * numbers in their order, each the bytes red, green, blue and 255. `pac_live_draw` draws each number in its colour. PAC_CLOSED.
@@ -448,9 +455,9 @@ static inline uint32_t pac_live_registers_checked(pac_live *live, pac_registers 
     return live && registers ? pac_live_registers(live, registers) : (uint32_t)PAC_NULL;
 }
 
-static inline uint32_t pac_live_draw_checked(pac_live *live, uint8_t *rgba, size_t rgba_length)
+static inline uint32_t pac_live_draw_checked(pac_live *live, uint8_t order, uint8_t *pixels, size_t pixels_length)
 {
-    return live && rgba ? pac_live_draw(live, rgba, rgba_length) : (uint32_t)PAC_NULL;
+    return live && pixels ? pac_live_draw(live, order, pixels, pixels_length) : (uint32_t)PAC_NULL;
 }
 
 static inline uint32_t pac_live_lines_checked(pac_live *live, uint8_t *lines, size_t lines_length, uint8_t *palette, size_t palette_length)

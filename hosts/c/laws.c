@@ -5,6 +5,8 @@
  * bytes are a call, and a number for it, the low byte first. The laws:
  *
  * - cut time is whole time: two calls for a part each give the samples of one call for both, and the same block;
+ * - and so it is on a live board, by whatever calls of pac_live_until and pac_live_step it is cut: these end at an address of their set, with
+ *   their time over, at a stop, or with a full buffer;
  * - a board that is saved and loaded is the same board, but for what is held, which a file doesn't keep;
  * - a copy goes on as the board does, and draws the same picture;
  * - a call that is refused changes neither the block nor a buffer;
@@ -15,7 +17,7 @@
 #include <stdlib.h>
 #include <string.h>
 
-enum { MOST = 20000, ROOM = MOST * 12 / 125 + 2, CALLS = 24, HELD = 3218 };
+enum { MOST = 20000, ROOM = MOST * 12 / 125 + 2, CALLS = 24, CUTS = 64, LIVE = 1 << 18, LONGEST = 23 };
 
 static uint8_t roms[PAC_ROMS_SIZE];
 
@@ -74,6 +76,53 @@ static void run(pac_board *board, uint32_t microseconds)
         leave(board, &ran, microseconds);
 }
 
+/* Cuts so much time of a live board: how many samples it gives at most so far, of which there is room for some more. */
+static uint32_t cut(pac_live *live, uint64_t ticks, uint32_t some, int16_t *samples)
+{
+    static uint8_t places[1 << 16];
+    uint32_t heard = 0;
+    for (size_t at = 0; at < sizeof places; at++)
+        places[at] = at % 61 == some % 61;
+    for (uint32_t cuts = 0; cuts < CUTS && ticks > 2 * LONGEST; cuts++) {
+        pac_until ran = {0};
+        pac_ran step = {0};
+        pac_registers now = {0};
+        some = some * 1103515245u + 12345u;
+        if (some >> 30 == 0) {
+            holds(pac_live_step(live, samples + heard, ROOM - heard, &step) == PAC_DONE && step.ticks <= LONGEST && step.samples <= 2);
+            heard += step.samples, ticks -= step.ticks;
+            continue;
+        }
+        uint32_t asked = (some >> 8) % (uint32_t)(ticks - LONGEST), room = some >> 29 & 1 ? ROOM - heard : (some >> 4) % 40 % (ROOM - heard);
+        size_t size = some >> 28 & 1 ? sizeof places : 0;
+        holds(pac_live_until(live, asked, places, size, samples + heard, room, &ran) == PAC_DONE && ran.samples <= room && ran.ticks < asked + LONGEST);
+        holds(pac_live_registers(live, &now) == PAC_DONE && now.pc == ran.pc && (ran.why == PAC_UNTIL_STOP) == (ran.stop != PAC_GOES));
+        holds(ran.why != PAC_UNTIL_PLACE || (size != 0 && places[ran.pc] != 0));
+        holds(ran.why != PAC_UNTIL_TIME || ran.ticks >= asked);
+        holds(ran.why != PAC_UNTIL_FULL || ran.samples == room);
+        heard += ran.samples, ticks -= ran.ticks;
+    }
+    return heard;
+}
+
+/* Lets a board run, and a live one with its block for as long, cut by pac_live_until and pac_live_step; the samples and the blocks have to be the
+ * same. */
+static void run_live(pac_board *board, uint32_t microseconds)
+{
+    static _Alignas(16) uint8_t memory[LIVE];
+    static int16_t whole[ROOM], parts[2 * ROOM];
+    pac_live live = {memory, sizeof memory, 0};
+    pac_board before = *board, after;
+    pac_ran ran = {0}, rest = {0};
+    if (pac_exec(board, roms, sizeof roms, microseconds, whole, ROOM, &ran) != PAC_DONE)
+        return;
+    holds(pac_live_open(&live, roms, sizeof roms, 0) == PAC_DONE && pac_live_put(&live, roms, sizeof roms, &before) == PAC_DONE);
+    uint32_t heard = cut(&live, ran.ticks, microseconds, parts);
+    holds(pac_live_exec(&live, microseconds, parts + heard, ROOM, &rest) == PAC_DONE && pac_live_give(&live, &after) == PAC_DONE);
+    holds(same(board, &after) && ran.stop == rest.stop && ran.pc == rest.pc);
+    holds(ran.samples == heard + rest.samples && memcmp(whole, parts, ran.samples * sizeof *whole) == 0);
+}
+
 /* Saves a board, and loads it into another. */
 static void save_and_load(pac_board *board)
 {
@@ -105,7 +154,8 @@ static void call(pac_board *board, uint8_t which, uint16_t number)
 {
     pac_board before = *board;
     switch (which % 8) {
-    case 0: case 1: case 2: run(board, number % MOST); break;
+    case 0: case 1: run(board, number % MOST); break;
+    case 2: run_live(board, number % MOST); break;
     case 3: holds(pac_hold(board, number, 0xFFFF) == PAC_DONE || same(board, &before)); break;
     case 4: holds(pac_reset(board) == PAC_DONE || same(board, &before)); break;
     case 5: save_and_load(board); break;

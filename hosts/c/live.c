@@ -415,13 +415,18 @@ static void put_both(pair *it)
     compare(it, "pac_live_put", code, wanted, &handle);
 }
 
-/* A picture and a state file, mostly of the right lengths. */
+/* A picture in some order, mostly of the right length. */
 static void draw_both(pair *it)
 {
     pac_live handle = it->live;
     size_t length = below(it, 4) != 0 ? PAC_RGBA_SIZE : below(it, PAC_RGBA_SIZE);
-    uint32_t code = pac_live_draw(&it->live, it->by_live.rgba, length);
-    compare(it, "pac_live_draw", code, pac_draw(&it->block, it->roms, PAC_ROMS_SIZE, it->by_block.rgba, length), &handle);
+    uint8_t order = (uint8_t)(below(it, 3) * below(it, 256)), *rgba = it->by_block.rgba;
+    uint32_t code = pac_live_draw(&it->live, order, it->by_live.rgba, length), wanted = pac_draw(&it->block, it->roms, PAC_ROMS_SIZE, rgba, length);
+    for (size_t at = 0; wanted == PAC_DONE && order != PAC_RGBA && at < PAC_RGBA_SIZE; at += 4) {
+        uint8_t red = rgba[at];
+        rgba[at] = rgba[at + 2], rgba[at + 2] = red;
+    }
+    compare(it, "pac_live_draw", code, wanted, &handle);
 }
 
 /* The block's colour numbers, and its palette: what pac_draw makes of a line that begins with all numbers. */
@@ -655,7 +660,7 @@ static void try_closed(pair *it, const char *what, pac_live live)
     is_so &= pac_live_until(&live, 1, it->places, PLACES, it->watched, 0, it->by_live.samples, ROOM, &it->by_live.until) == PAC_CLOSED;
     is_so &= pac_live_until(&live, UINT32_MAX, it->places, 1, it->watched, 1, it->by_live.samples, 0, &it->by_live.until) == PAC_CLOSED;
     is_so &= pac_live_peek(&live, 0, it->by_live.bytes, PEEKED) == PAC_CLOSED;
-    is_so &= pac_live_draw(&live, it->by_live.rgba, PAC_RGBA_SIZE) == PAC_CLOSED && pac_live_draw(&live, it->by_live.rgba, 1) == PAC_CLOSED;
+    is_so &= pac_live_draw(&live, PAC_RGBA, it->by_live.rgba, PAC_RGBA_SIZE) == PAC_CLOSED && pac_live_draw(&live, PAC_BGRA, it->by_live.rgba, 1) == PAC_CLOSED;
     is_so &= pac_live_lines(&live, it->by_live.lines, PAC_LINES_SIZE, it->by_live.palette, PAC_PALETTE_SIZE) == PAC_CLOSED;
     is_so &= pac_live_save(&live, it->by_live.text, PAC_STATE_SIZE) == PAC_CLOSED;
     is_so &= pac_live_load(&live, it->file, PAC_STATE_SIZE) == PAC_CLOSED;
@@ -705,7 +710,7 @@ static void try_null(pair *it)
     is_so &= pac_live_until_checked(&it->live, 1, NULL, 0, it->watched, 0, it->by_live.samples, ROOM, &it->by_live.until) == PAC_NULL;
     is_so &= pac_live_until_checked(&it->live, 1, it->places, 0, NULL, 0, it->by_live.samples, ROOM, &it->by_live.until) == PAC_NULL;
     is_so &= pac_live_until_checked(&it->live, 1, it->places, 0, it->watched, 0, it->by_live.samples, ROOM, NULL) == PAC_NULL;
-    is_so &= pac_live_peek_checked(&it->live, 0, NULL, 0) == PAC_NULL && pac_live_draw_checked(&it->live, NULL, PAC_RGBA_SIZE) == PAC_NULL;
+    is_so &= pac_live_peek_checked(&it->live, 0, NULL, 0) == PAC_NULL && pac_live_draw_checked(&it->live, PAC_BGRA, NULL, PAC_RGBA_SIZE) == PAC_NULL;
     is_so &= pac_live_lines_checked(&it->live, it->by_live.lines, PAC_LINES_SIZE, NULL, PAC_PALETTE_SIZE) == PAC_NULL;
     is_so &= pac_live_save_checked(&it->live, NULL, 0) == PAC_NULL && pac_live_load_checked(&it->live, NULL, 0) == PAC_NULL;
     row(it, "a pointer that is null", is_so);

@@ -163,7 +163,7 @@ static void *live_registers(void *unused)
 
 static void *live_draw(void *unused)
 {
-    code = pac_live_draw(&live, rgba, sizeof rgba);
+    code = pac_live_draw(&live, PAC_RGBA, rgba, sizeof rgba);
     return unused;
 }
 

@@ -10,6 +10,7 @@ import ctypes
 import importlib.machinery
 import itertools
 import pathlib
+import random
 import re
 import shutil
 import socket
@@ -32,6 +33,7 @@ import rows
 OUT, SERVER = ROOT / "hosts/out", ROOT / "hosts/gdb/server.py"
 STEPS, STOPS, BACK = 3000, 40, 200
 FEW_KEPT, VECTORS, HELD_AT = 8, 0x100, 3218  # kept moments, where starfall has the address of its interrupt, and where a block has what is held
+MACHINE_AT, I386, ASKED = 18, 3, 60  # where an ELF file has its processor, a processor that each gdb knows, and of how many lines it is asked
 PAIRS = "A F,B C,D E,H L,SP,PC,IX,IY,A' F',B' C',D' E',H' L',I R".split(",")  # gdb's registers, the high byte first
 NAMES = "af bc de hl sp pc ix iy af' bc' de' hl' ir".split()
 count = rows.Count("gdb", is_shown=True)
@@ -237,20 +239,21 @@ def try_kept() -> None:
     server.__file__ = loader.path
     loader.exec_module(server)
     setattr(server, "MOST_KEPT", FEW_KEPT)
-    board, seen, calls = server.Board(str(OUT / "starfall.roms"), pacboard.SWITCHES), list[tuple[bool, bytes]](), itertools.count()
-    handler = int.from_bytes((OUT / "starfall.roms").read_bytes()[VECTORS : VECTORS + 2], "little")
+    roms = (OUT / "starfall.roms").read_bytes()
+    board, seen, calls = server.Board(roms, pacboard.SWITCHES), list[tuple[bool, bytes]](), itertools.count()
+    handler = int.from_bytes(roms[VECTORS : VECTORS + 2], "little")
     commands = {5: "hold START1", 9: "hold -", 20: "hold P1_LEFT,COIN1", 33: "reset", 34: "hold P1_RIGHT", 60: "hold P1_UP"}
     board.places[handler] = 1
     for at in range(STOPS * 2):
-        is_met = board.go(lambda: next(calls) > 1000) == server.BREAK
+        is_met = board.go_on(lambda: next(calls) > 1000) == server.BREAK
         told = board.command(commands.get(at, "frames 0").split())
-        seen.append((is_met and told == "done\n", board.block()))
+        seen.append((is_met and told == "done\n", board.block))
     row(f"{len(seen)} stops, between which inputs change", all(is_so for is_so, _ in seen) and len({block[HELD_AT : HELD_AT + 2] for _, block in seen}) == 5)
     row("the kept moments", len(board.kept) <= FEW_KEPT + 2 * len(commands) and len(board.kept) > len(commands))
     stops = [block for _, block in seen if int.from_bytes(block[52:54], "little") == handler]
-    is_same = all(board.go_back() == server.BREAK and board.block() == block for block in stops[-2::-1])
+    is_same = all(board.go_back() == server.BREAK and board.block == block for block in stops[-2::-1])
     row(f"{len(stops) - 1} of them back, each with what was held then", is_same and len(stops) > STOPS)
-    row("and the beginning", board.go_back() == server.BEGIN and int.from_bytes(board.block()[58:66], "little") == 0)
+    row("and the beginning", board.go_back() == server.BEGIN and board.time == 0)
 
 
 def try_ends(room: pathlib.Path) -> None:
@@ -265,9 +268,32 @@ def try_ends(room: pathlib.Path) -> None:
         row(f"no content: {content.name}", end.returncode == 3 and end.stderr.count("\n") == 1)
 
 
+def lines_of(listing: pathlib.Path) -> dict[int, int]:
+    """The lines that have bytes, each with its address."""
+    return {int(line): int(at, 16) for line, at in re.findall(r"^(\d{5}) ([0-9A-F]{4}) [0-9A-F]{2}", listing.read_text(), re.M)}
+
+
+def try_lines(room: pathlib.Path, listing: pathlib.Path) -> None:
+    """The lines of the source, by readelf, and by a gdb that takes the file for another processor's."""
+    wanted, name = lines_of(listing), "examples/starfall.asm"
+    if shutil.which("readelf"):
+        said = subprocess.run(["readelf", "--debug-dump=decodedline", "-W", room / "it.elf"], capture_output=True, text=True, check=False)
+        found = {int(line): int(at, 16) for line, at in re.findall(r"^\S+ +(\d+) +(0|0x[0-9a-f]+) +x$", said.stdout, re.M)}
+        row("its lines, by readelf", not said.stderr and f"CU: {name}:" in said.stdout and len(wanted) > 300 and found == wanted)
+    if shutil.which("gdb"):
+        content = bytearray((room / "it.elf").read_bytes())
+        content[MACHINE_AT] = I386
+        (room / "other.elf").write_bytes(content)
+        asked = random.Random(1).sample(sorted(wanted), ASKED)
+        words = [word for line in asked for word in ("-ex", f"info line starfall.asm:{line}")]
+        said = subprocess.run(["gdb", "-batch", "-nx", *words, room / "other.elf"], capture_output=True, text=True, check=False)
+        pairs = re.findall(r'^Line (\d+) of "(.*)" (?:starts at address|is at address) 0x([0-9a-f]+)', said.stdout, re.M)
+        row("and by gdb", [(int(line), of, int(at, 16)) for line, of, at in pairs] == [(line, name, wanted[line]) for line in asked], said.stdout[:200] + said.stderr[:200])
+
+
 def try_symbols(room: pathlib.Path, listing: pathlib.Path) -> None:
     """The symbols as an ELF file."""
-    words: list[str | pathlib.Path] = [sys.executable, ROOT / "hosts/gdb/symbols.py", listing, "-o", room / "it.elf"]
+    words: list[str | pathlib.Path] = [sys.executable, ROOT / "hosts/gdb/symbols.py", listing, "--source", "examples/starfall.asm", "-o", room / "it.elf"]
     row("an ELF file", subprocess.run(words, check=False).returncode == 0)
     row("has the program", (room / "it.elf").read_bytes()[84 : 84 + 0x4000] == (OUT / "starfall.roms").read_bytes()[:0x4000])
     if shutil.which("readelf"):
@@ -275,6 +301,7 @@ def try_symbols(room: pathlib.Path, listing: pathlib.Path) -> None:
         found = dict((name, int(value, 16)) for value, name in re.findall(r"^ *\d+: ([0-9a-f]{8}) .* (\w+)$", said.stdout, re.M))
         wanted = dict((name, int(value) & 0xFFFFFFFF) for name, value in re.findall(r"^(\w+) (-?\d+)$", listing.read_text().rpartition("\nSYMBOLS\n")[2], re.M))
         row("and its symbols, by readelf", not said.stderr and "Zilog Z80" in said.stdout and len(wanted) > 100 and found == wanted)
+    try_lines(room, listing)
     words[2] = OUT / "starfall.roms"
     row("no listing", subprocess.run(words, capture_output=True, check=False).returncode == 3)
 

@@ -8,7 +8,7 @@
 
 #include <libretro.h>
 
-enum { BUTTONS = 9, PORTS = 2, SWITCHES = 5, TURN = SWITCHES, RAM_SIZE = PAC_TILE_RAM_SIZE + PAC_COLOUR_RAM_SIZE + PAC_WORK_RAM_SIZE };
+enum { BUTTONS = 9, PORTS = 2, SWITCHES = 5, TURN = SWITCHES };
 
 static const struct button {
     unsigned button;
@@ -21,25 +21,18 @@ static const struct button {
     {RETRO_DEVICE_ID_JOYPAD_R, {PAC_BOARD_TEST, PAC_COCKTAIL}},
 };
 
-/* The options: the groups of the DIP switches by the values that bin/dip names, of 201 first, and the quarter turns. */
+/* The options: groups of the DIP switches by the words of bin/dip, from that of PAC_SWITCHES on in the order of their values, after the last of which
+ * comes 0; and the quarter turns. */
 static const struct retro_variable options[] = {
-    {"pacboard_coins", "Coins; 1C1C|FREE|1C2C|2C1C"}, {"pacboard_lives", "Lives; 3|1|2|5"},
+    {"pacboard_coins", "Coins; 1C1C|1C2C|2C1C|FREE"}, {"pacboard_lives", "Lives; 3|5|1|2"},
     {"pacboard_bonus", "Bonus life; 10000|15000|20000|NONE"}, {"pacboard_difficulty", "Difficulty; NORMAL|HARD"},
     {"pacboard_names", "Ghosts' names; NORMAL|ALTERNATE"}, {"pacboard_turn", "Quarter turns to the left; 0|1|2|3"}, {NULL, NULL},
 };
-static const struct group {
-    uint8_t shift;
-    const char *names[4]; /* by their value */
-} groups[SWITCHES] = {
-    {0, {"FREE", "1C1C", "1C2C", "2C1C"}}, {2, {"1", "2", "3", "5"}}, {4, {"10000", "15000", "20000", "NONE"}},
-    {6, {"HARD", "NORMAL", NULL, NULL}}, {7, {"ALTERNATE", "NORMAL", NULL, NULL}},
-};
+static const uint8_t shifts[SWITCHES + 1] = {0, 2, 4, 6, 7, 8}; /* the groups' bits, and the end of the last one */
 
 static machine it;
-static pac_board seen;              /* the board, as the frontend sees it */
-static uint8_t ram[RAM_SIZE];       /* its RAM, as the board has it */
-static uint8_t rgba[PAC_RGBA_SIZE];
-static uint32_t picture[PAC_WIDTH * PAC_HEIGHT];
+static pac_board seen; /* the board, as the frontend sees it */
+static uint8_t picture[PAC_RGBA_SIZE];
 static bool is_loaded, is_told;
 static retro_environment_t environment;
 static retro_video_refresh_t show;
@@ -62,6 +55,8 @@ RETRO_API void retro_cheat_set(unsigned index, bool is_on, const char *code) { (
 RETRO_API bool retro_load_game_special(unsigned type, const struct retro_game_info *games, size_t count) { return (void)type, (void)games, (void)count, false; }
 RETRO_API void retro_unload_game(void) { is_loaded = false; }
 RETRO_API size_t retro_serialize_size(void) { return PAC_BOARD_SIZE; }
+RETRO_API void *retro_get_memory_data(unsigned kind) { return kind == RETRO_MEMORY_SYSTEM_RAM ? seen.bytes + PAC_AT_WORK_RAM : NULL; }
+RETRO_API size_t retro_get_memory_size(unsigned kind) { return kind == RETRO_MEMORY_SYSTEM_RAM ? PAC_WORK_RAM_SIZE : 0; }
 
 RETRO_API void retro_set_environment(retro_environment_t call)
 {
@@ -89,49 +84,38 @@ static void tell(const char *text)
     environment(RETRO_ENVIRONMENT_SET_MESSAGE, &message);
 }
 
-/* What the frontend has for an option, and an empty text where it has nothing. */
-static const char *option(int at)
+/* Which of an option's words the frontend has: 0 is the first, and where it has none. */
+static unsigned option(int at)
 {
     struct retro_variable asked = {options[at].key, NULL};
-    return environment(RETRO_ENVIRONMENT_GET_VARIABLE, &asked) && asked.value != NULL ? asked.value : "";
+    if (!environment(RETRO_ENVIRONMENT_GET_VARIABLE, &asked) || asked.value == NULL)
+        return 0;
+    const char *word = strchr(options[at].value, ';') + 1;
+    size_t length = strlen(asked.value);
+    for (unsigned place = 0; word != NULL; place++, word = strchr(word, '|'))
+        if (strncmp(++word, asked.value, length) == 0 && (word[length] == '|' || word[length] == '\0'))
+            return place;
+    return 0;
 }
 
-/* The byte of the DIP switches: what no option says is as in PAC_SWITCHES. */
-static uint8_t switches(void)
+/* Puts a board at power-on, with the DIP switches as the options are now. */
+static bool begin(const uint8_t *roms)
 {
-    unsigned found = PAC_SWITCHES;
+    unsigned switches = 0;
     for (int at = 0; at < SWITCHES; at++)
-        for (unsigned value = 0; value < 4 && groups[at].names[value] != NULL; value++)
-            if (strcmp(option(at), groups[at].names[value]) == 0)
-                found = (found & ~((groups[at].shift < 6 ? 3u : 1u) << groups[at].shift)) | value << groups[at].shift;
-    return (uint8_t)found;
-}
-
-_Static_assert(PAC_AT_WORK_RAM + PAC_WORK_RAM_SIZE == PAC_AT_TILE_RAM + RAM_SIZE, "RAM is in one piece of a block");
-
-/* Lets the frontend see the board as it is. */
-static void give(void)
-{
-    if (pac_live_give(&it.live, &seen) == PAC_DONE)
-        memcpy(ram, seen.bytes + PAC_AT_TILE_RAM, RAM_SIZE);
-}
-
-/* Has the board take what cheats changed. */
-static void take(void)
-{
-    if (memcmp(ram, seen.bytes + PAC_AT_TILE_RAM, RAM_SIZE) != 0)
-        machine_put(&it, &seen);
+        switches |= ((((unsigned)PAC_SWITCHES >> shifts[at]) + option(at)) & ((1u << (shifts[at + 1] - shifts[at])) - 1)) << shifts[at];
+    is_told = false;
+    return machine_open(&it, roms, (uint8_t)switches) == PAC_DONE && pac_live_give(&it.live, &seen) == PAC_DONE;
 }
 
 /* Says where the frontend's cheats find the board's memory. */
 static void map_memory(void)
 {
-    uint8_t *bytes = seen.bytes;
     struct retro_memory_descriptor parts[] = {
         {.flags = RETRO_MEMDESC_CONST, .ptr = it.roms, .start = 0, .len = PAC_SOURCE_ROM_SIZE, .addrspace = "ROM"},
-        {.ptr = bytes + PAC_AT_TILE_RAM, .start = 0x4000, .len = PAC_TILE_RAM_SIZE, .addrspace = "TILES"},
-        {.ptr = bytes + PAC_AT_COLOUR_RAM, .start = 0x4400, .len = PAC_COLOUR_RAM_SIZE, .addrspace = "COLOURS"},
-        {.flags = RETRO_MEMDESC_SYSTEM_RAM, .ptr = bytes + PAC_AT_WORK_RAM, .start = 0x4C00, .len = PAC_WORK_RAM_SIZE, .addrspace = "RAM"},
+        {.ptr = seen.bytes + PAC_AT_TILE_RAM, .start = 0x4000, .len = PAC_TILE_RAM_SIZE, .addrspace = "TILES"},
+        {.ptr = seen.bytes + PAC_AT_COLOUR_RAM, .start = 0x4400, .len = PAC_COLOUR_RAM_SIZE, .addrspace = "COLOURS"},
+        {.flags = RETRO_MEMDESC_SYSTEM_RAM, .ptr = seen.bytes + PAC_AT_WORK_RAM, .start = 0x4C00, .len = PAC_WORK_RAM_SIZE, .addrspace = "RAM"},
     };
     struct retro_memory_map map = {parts, sizeof parts / sizeof parts[0]};
     environment(RETRO_ENVIRONMENT_SET_MEMORY_MAPS, &map);
@@ -144,22 +128,17 @@ RETRO_API bool retro_load_game(const struct retro_game_info *game)
     const char *wrong = !pac_matches() ? "the core's header is another library's" : game == NULL || game->path == NULL ? "no content" : content_read(game->path, roms);
     if (wrong == NULL && !environment(RETRO_ENVIRONMENT_SET_PIXEL_FORMAT, &format))
         wrong = "the frontend shows no XRGB8888";
-    if (wrong == NULL && machine_open(&it, roms, switches()) != PAC_DONE)
+    if (wrong == NULL && !begin(roms))
         wrong = "the board isn't made";
     if (wrong != NULL)
         return tell(wrong), false;
-    unsigned turns = (unsigned)strtoul(option(TURN), NULL, 10) & 3;
+    unsigned turns = option(TURN);
     environment(RETRO_ENVIRONMENT_SET_ROTATION, &turns);
-    give(), map_memory();
-    return is_told = false, is_loaded = true;
+    map_memory();
+    return is_loaded = true;
 }
 
-/* Power-on, with the switches as they are now. */
-RETRO_API void retro_reset(void)
-{
-    machine_open(&it, it.roms, switches()), is_told = false;
-    give();
-}
+RETRO_API void retro_reset(void) { begin(it.roms); }
 
 /* What is held on both joypads. */
 static uint16_t held(void)
@@ -171,13 +150,14 @@ static uint16_t held(void)
     return (uint16_t)mask;
 }
 
-/* A frame: what is held, its sound in both ears, silence after a stop, and its picture. */
+/* A frame, of the board as cheats have left it: its sound in both ears, silence after a stop, and its picture. */
 RETRO_API void retro_run(void)
 {
     int16_t samples[MACHINE_ROOM] = {0}, both[2 * MACHINE_ROOM];
     pac_ran ran = {0};
-    poll_input(), take();
-    if (machine_frame(&it, held(), samples, &ran) != PAC_DONE)
+    poll_input();
+    if (machine_put(&it, &seen) != PAC_DONE || pac_live_hold(&it.live, held(), 0xFFFF) != PAC_DONE
+        || pac_live_exec(&it.live, PAC_FRAME_MICROSECONDS, samples, MACHINE_ROOM, &ran) != PAC_DONE)
         tell("the board refuses the frame");
     if (ran.stop != PAC_GOES && !is_told)
         is_told = true, tell("the board stopped: its program has run into what is no instruction");
@@ -186,15 +166,14 @@ RETRO_API void retro_run(void)
         both[at] = samples[at / 2];
     for (size_t done = 0, part; done < count && (part = play(both + 2 * done, count - done)) > 0; done += part)
         continue;
-    if (pac_live_draw(&it.live, rgba, PAC_RGBA_SIZE) == PAC_DONE)
-        for (size_t at = 0; at < PAC_WIDTH * PAC_HEIGHT; at++)
-            picture[at] = (uint32_t)rgba[4 * at] << 16 | (uint32_t)rgba[4 * at + 1] << 8 | rgba[4 * at + 2];
-    give(), show(picture, PAC_WIDTH, PAC_HEIGHT, PAC_WIDTH * sizeof picture[0]);
+    pac_live_draw(&it.live, PAC_BGRA, picture, PAC_RGBA_SIZE);
+    pac_live_give(&it.live, &seen);
+    show(picture, PAC_WIDTH, PAC_HEIGHT, 4 * PAC_WIDTH);
 }
 
 RETRO_API bool retro_serialize(void *bytes, size_t size)
 {
-    if (size < PAC_BOARD_SIZE || !is_loaded)
+    if (!is_loaded || size < PAC_BOARD_SIZE)
         return false;
     return memcpy(bytes, seen.bytes, PAC_BOARD_SIZE), true;
 }
@@ -202,13 +181,7 @@ RETRO_API bool retro_serialize(void *bytes, size_t size)
 RETRO_API bool retro_unserialize(const void *bytes, size_t size)
 {
     static pac_board board;
-    if (size < PAC_BOARD_SIZE || !is_loaded)
+    if (!is_loaded || size < PAC_BOARD_SIZE || machine_put(&it, memcpy(&board, bytes, PAC_BOARD_SIZE)) != PAC_DONE)
         return false;
-    memcpy(board.bytes, bytes, PAC_BOARD_SIZE);
-    if (machine_put(&it, &board) != PAC_DONE)
-        return false;
-    return is_told = false, give(), true;
+    return seen = board, is_told = false, true;
 }
-
-RETRO_API void *retro_get_memory_data(unsigned kind) { return kind == RETRO_MEMORY_SYSTEM_RAM ? seen.bytes + PAC_AT_WORK_RAM : NULL; }
-RETRO_API size_t retro_get_memory_size(unsigned kind) { return kind == RETRO_MEMORY_SYSTEM_RAM ? PAC_WORK_RAM_SIZE : 0; }

@@ -58,6 +58,7 @@ WIDTH, HEIGHT = 288, 224  # pixels
 FRAME_MICROSECONDS, FRAME_SAMPLES, SAMPLE_RATE, SWITCHES = 16_500, 1_584, 96_000, 0xC9
 STEP_SAMPLES, ALIGNED, CLOSED = 2, 16, 5  # room for a step, what the address of a live board's memory is divided by, and the code of a closed one
 SAMPLE_TICKS = 32  # T-states from one sample to the next
+RGBA, BGRA = 0, 1  # the order of a pixel's bytes: red, green, blue and 255, or blue, green, red and 255
 UNTIL_TIME, UNTIL_PLACE, UNTIL_STOP, UNTIL_FULL = 1, 2, 3, 4  # why LiveBoard.until ended
 NAMES = """P1_UP P1_LEFT P1_RIGHT P1_DOWN RACK_TEST COIN1 COIN2 CREDIT
 P2_UP P2_LEFT P2_RIGHT P2_DOWN BOARD_TEST START1 START2 COCKTAIL""".split()
@@ -218,7 +219,7 @@ def library() -> ctypes.CDLL:
         "pac_live_until": (written, ctypes.c_uint32, text, size, written, size, written),
         "pac_live_peek": (written, ctypes.c_uint16, written, size),
         "pac_live_registers": (written, written),
-        "pac_live_draw": (written, written, size),
+        "pac_live_draw": (written, ctypes.c_uint8, written, size),
         "pac_live_save": (written, written, size),
         "pac_live_load": (written, text, size),
     }
@@ -269,6 +270,14 @@ def places_of(addresses: Iterable[SupportsIndex]) -> bytes:
     for address in addresses:
         found[number("address", address, 16)] = 1
     return bytes(found)
+
+
+def picture_in(buffer: Writable) -> tuple[object, int]:
+    """A buffer for a picture as a call takes it: where it is, and its length."""
+    whole: Any = buffer
+    if memoryview(whole).nbytes != RGBA_SIZE:
+        raise Refused(1)
+    return (ctypes.c_char * RGBA_SIZE).from_buffer(whole), RGBA_SIZE
 
 
 def given(samples: ctypes.Array[ctypes.c_int16], ran: Ran | Until) -> array.array[int]:
@@ -348,10 +357,7 @@ class Calls:
 
     def draw_into(self, rgba: Writable) -> None:
         """Draws the picture into a buffer of 258,048 bytes, as an array of numpy is."""
-        buffer: Any = rgba
-        if memoryview(buffer).nbytes != RGBA_SIZE:
-            raise Refused(1)
-        self.call("draw", (ctypes.c_char * RGBA_SIZE).from_buffer(buffer), RGBA_SIZE)
+        self.call("draw", *picture_in(rgba))
 
     def image(self) -> NDArray[uint8]:
         """The picture as it stands as an array of numpy: 224 rows of 288 pixels, each red, green, blue and 255."""
@@ -499,6 +505,10 @@ class LiveBoard(Calls):
         """Becomes the board of a ROM set and a block, if there is one."""
         self.open(roms, 0)
         self.block = block
+
+    def draw_into(self, rgba: Writable, order: SupportsIndex = RGBA) -> None:
+        """Draws the picture into a buffer of 258,048 bytes, each pixel by four of them in this order, RGBA or BGRA."""
+        self.call("draw", number("order", order, 8), *picture_in(rgba))
 
     def step(self) -> tuple[Ran, array.array[int]]:
         """Does one step: an instruction, one round of a repeating one, a halted step or an interrupt's acceptance. A run goes on from there to

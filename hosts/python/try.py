@@ -392,6 +392,15 @@ def try_calls() -> None:
     rgba = bytearray(pacboard.RGBA_SIZE)
     board.draw_into(rgba)
     row("drawn into a buffer", rgba == board.draw() and len(set(rgba)) > 2)
+    live, other = pacboard.LiveBoard(board.roms), bytearray(pacboard.RGBA_SIZE)
+    live.block = board.block
+    for order in (pacboard.RGBA, pacboard.BGRA, 2, 255):
+        live.draw_into(other, order)
+        if order != pacboard.RGBA:
+            other[::4], other[2::4] = other[2::4], other[::4]
+        row(f"drawn in the order {order}", rgba == other)
+    for wrong_order, fault in {256: "ValueError", -1: "ValueError", 1.5: "TypeError"}.items():
+        row(f"no order {wrong_order}", fault_of(live.draw_into, other, wrong_order) == fault)
     kept = board.block
     anything: Any = board
     wrong: dict[str, list[tuple[Any, ...]]] = {

@@ -12,111 +12,102 @@
 
 #include <SDL.h>
 
-enum { MOST_FRAMES = 36000, EACH = 30, KEYS = 16, BUTTONS = 7, MOST_QUEUED = 4 * 1584 * 2, DEAD = 12000 };
+enum { MOST_FRAMES = 36000, EACH = 30, INPUTS = 16, MOST_QUEUED = 4 * 2 * PAC_FRAME_SAMPLES, DEAD = 12000, NONE = SDL_CONTROLLER_BUTTON_INVALID };
 
-static const struct key {
-    SDL_Scancode key;
-    uint16_t held;
+static const struct input {
     const char *name;
-} keys[KEYS] = { /* in the order of the masks */
-    {SDL_SCANCODE_UP, PAC_P1_UP, "P1_UP"},         {SDL_SCANCODE_LEFT, PAC_P1_LEFT, "P1_LEFT"},    {SDL_SCANCODE_RIGHT, PAC_P1_RIGHT, "P1_RIGHT"},
-    {SDL_SCANCODE_DOWN, PAC_P1_DOWN, "P1_DOWN"},   {SDL_SCANCODE_F9, PAC_RACK_TEST, "RACK_TEST"},  {SDL_SCANCODE_5, PAC_COIN1, "COIN1"},
-    {SDL_SCANCODE_6, PAC_COIN2, "COIN2"},          {SDL_SCANCODE_7, PAC_CREDIT, "CREDIT"},         {SDL_SCANCODE_R, PAC_P2_UP, "P2_UP"},
-    {SDL_SCANCODE_D, PAC_P2_LEFT, "P2_LEFT"},      {SDL_SCANCODE_G, PAC_P2_RIGHT, "P2_RIGHT"},     {SDL_SCANCODE_F, PAC_P2_DOWN, "P2_DOWN"},
-    {SDL_SCANCODE_F10, PAC_BOARD_TEST, "BOARD_TEST"}, {SDL_SCANCODE_1, PAC_START1, "START1"},      {SDL_SCANCODE_2, PAC_START2, "START2"},
-    {SDL_SCANCODE_F11, PAC_COCKTAIL, "COCKTAIL"},
-};
-static const struct button {
+    SDL_Scancode key;
     SDL_GameControllerButton button;
-    uint16_t held;
-} buttons[BUTTONS] = {
-    {SDL_CONTROLLER_BUTTON_DPAD_UP, PAC_P1_UP},       {SDL_CONTROLLER_BUTTON_DPAD_LEFT, PAC_P1_LEFT}, {SDL_CONTROLLER_BUTTON_DPAD_RIGHT, PAC_P1_RIGHT},
-    {SDL_CONTROLLER_BUTTON_DPAD_DOWN, PAC_P1_DOWN},   {SDL_CONTROLLER_BUTTON_BACK, PAC_COIN1},        {SDL_CONTROLLER_BUTTON_START, PAC_START1},
-    {SDL_CONTROLLER_BUTTON_Y, PAC_CREDIT},
+} inputs[INPUTS] = { /* by the bits of a mask */
+    {"P1_UP", SDL_SCANCODE_UP, SDL_CONTROLLER_BUTTON_DPAD_UP},          {"P1_LEFT", SDL_SCANCODE_LEFT, SDL_CONTROLLER_BUTTON_DPAD_LEFT},
+    {"P1_RIGHT", SDL_SCANCODE_RIGHT, SDL_CONTROLLER_BUTTON_DPAD_RIGHT}, {"P1_DOWN", SDL_SCANCODE_DOWN, SDL_CONTROLLER_BUTTON_DPAD_DOWN},
+    {"RACK_TEST", SDL_SCANCODE_F9, NONE},                               {"COIN1", SDL_SCANCODE_5, SDL_CONTROLLER_BUTTON_BACK},
+    {"COIN2", SDL_SCANCODE_6, NONE},                                    {"CREDIT", SDL_SCANCODE_7, SDL_CONTROLLER_BUTTON_Y},
+    {"P2_UP", SDL_SCANCODE_R, NONE},                                    {"P2_LEFT", SDL_SCANCODE_D, NONE},
+    {"P2_RIGHT", SDL_SCANCODE_G, NONE},                                 {"P2_DOWN", SDL_SCANCODE_F, NONE},
+    {"BOARD_TEST", SDL_SCANCODE_F10, NONE},                             {"START1", SDL_SCANCODE_1, SDL_CONTROLLER_BUTTON_START},
+    {"START2", SDL_SCANCODE_2, NONE},                                   {"COCKTAIL", SDL_SCANCODE_F11, NONE},
 };
 
-static struct {
-    const char *content, *held, *record, *picture;
-    long frames, scale, turn, to;
-} words = {.frames = -1, .scale = 2, .to = -1};
+static const char *content, *held, *record, *picture;
+static long most_frames = -1, scale = 2, turn, address = -1;
+static const struct word {
+    const char *name, **text; /* a word with a text, or */
+    long *number, most;       /* a number, up to another */
+    int base;
+} words[] = {
+    {"--held", &held, NULL, 0, 0}, {"--record", &record, NULL, 0, 0}, {"--picture", &picture, NULL, 0, 0}, {"--frames", NULL, &most_frames, MOST_FRAMES, 10},
+    {"--scale", NULL, &scale, 8, 10}, {"--turn", NULL, &turn, 3, 10}, {"--to", NULL, &address, 0xFFFF, 16}, {NULL, NULL, NULL, 0, 0},
+};
+
 static machine it;
 static pac_board kept[MOST_FRAMES / EACH + 1]; /* the block before each 30th frame */
-static uint16_t played[MOST_FRAMES], given[MOST_FRAMES];
-static uint32_t heard; /* samples of the frame */
-static long now, given_frames; /* frames that were played, and that --held has */
-static bool is_paused, is_over, is_met; /* (is_met: in a frame, at the address of --to) */
-static uint8_t rgba[PAC_RGBA_SIZE];
+static uint16_t played[MOST_FRAMES];           /* what is held in each frame, from the beginning where --held says it */
+static long now;                               /* frames that were played */
+static bool is_paused, is_over, is_met;        /* (is_met: in a frame, at the address of --to) */
+static uint8_t pixels[PAC_RGBA_SIZE];
 static SDL_Window *window;
 static SDL_Renderer *renderer;
 static SDL_Texture *texture;
 static SDL_AudioDeviceID sound;
 static SDL_GameController *pad;
 
-/* Lets samples be heard; those of a frame are counted. */
-static void hear(const int16_t *samples, uint32_t count)
+/* Plays a frame with these inputs, or goes on with it where the last call ended at the address of --to, and lets it be heard, silence after a stop;
+ * false where it ends there, too, which is told, where there is no room for it, or where the board refuses it. What is played again isn't heard, and
+ * ends nowhere. */
+static bool play_frame(uint16_t mask, bool is_again)
 {
-    heard += count;
-    if (sound != 0)
-        SDL_QueueAudio(sound, samples, 2 * count);
-}
-
-/* Goes on with a frame to the address of --to: whether the board is there. */
-static bool is_at_address(void)
-{
-    static uint8_t places[MACHINE_PLACES];
-    int16_t samples[MACHINE_ROOM];
-    pac_until ran = {0};
-    if (words.to < 0)
-        return false;
-    places[words.to] = 1;
-    if (machine_until(&it, (uint64_t)(now + 1) * MACHINE_FRAME, places, samples, MACHINE_ROOM, &ran) == PAC_DONE)
-        hear(samples, ran.samples);
-    return ran.why == PAC_UNTIL_PLACE;
-}
-
-/* Plays a frame with these inputs, and lets it be heard, silence after a stop too; false where there is no room for it, the board refuses it, or is at
- * the address of --to: then the next call goes on with the frame. */
-static bool play_frame(uint16_t held, bool is_heard)
-{
+    static uint8_t places[0x10000];
     int16_t samples[MACHINE_ROOM] = {0};
-    pac_ran ran = {0};
+    pac_registers at = {0};
+    pac_until ran = {0};
     if (now >= MOST_FRAMES)
         return false;
-    if (now % EACH == 0 && !is_met)
+    if (!is_met && now % EACH == 0)
         pac_live_give(&it.live, &kept[now / EACH]);
     if (!is_met)
-        heard = 0, played[now] = held;
-    if (pac_live_hold(&it.live, played[now], 0xFFFF) != PAC_DONE || (is_met = is_heard && is_at_address()) || machine_frame(&it, played[now], samples, &ran) != PAC_DONE)
+        played[now] = mask;
+    if (address >= 0)
+        places[address] = 1;
+    pac_live_hold(&it.live, played[now], 0xFFFF), pac_live_registers(&it.live, &at);
+    uint32_t ticks = (uint32_t)((uint64_t)(now + 1) * MACHINE_FRAME - at.time);
+    if (pac_live_until(&it.live, ticks, places, is_again || address < 0 ? 0 : sizeof places, samples, MACHINE_ROOM, &ran) != PAC_DONE)
         return false;
-    now++;
-    if (is_heard && heard < PAC_FRAME_SAMPLES)
-        hear(samples, PAC_FRAME_SAMPLES - heard);
-    return true;
+    if (sound != 0 && !is_again)
+        SDL_QueueAudio(sound, samples, 2 * (ran.why == PAC_UNTIL_STOP ? PAC_FRAME_SAMPLES : ran.samples));
+    if ((is_met = ran.why == PAC_UNTIL_PLACE)) {
+        fprintf(stderr, "player: at %04X in frame %ld, T-state %llu\n", ran.pc, now, (unsigned long long)(at.time + ran.ticks));
+        return is_over |= most_frames >= 0, false;
+    }
+    return now++, true;
+}
+
+/* Plays the frames up to one again. */
+static void play_again(long frame)
+{
+    for (is_met = false; now < frame && play_frame(played[now], true);)
+        continue;
 }
 
 /* Goes to the moment after so many of the frames that were played. */
 static void go_to(long frame)
 {
     long wanted = frame < 0 ? 0 : frame;
-    is_met = false;
     if (machine_put(&it, &kept[wanted / EACH]) == PAC_DONE)
-        for (now = wanted / EACH * EACH; now < wanted && play_frame(played[now], false);)
-            continue;
+        now = wanted / EACH * EACH, play_again(wanted);
 }
 
 /* Puts the board at power-on with the content, and plays to the same moment: what is wrong, or NULL. */
 static const char *open_content(void)
 {
     static uint8_t roms[PAC_ROMS_SIZE];
-    const char *wrong = content_read(words.content, roms);
+    const char *wrong = content_read(content, roms);
     long wanted = now;
-    if (wrong != NULL)
-        return wrong;
-    if (machine_open(&it, roms, PAC_SWITCHES) != PAC_DONE)
-        return "the board isn't made";
-    for (now = 0, is_met = false; now < wanted && play_frame(played[now], false);)
-        continue;
-    return NULL;
+    if (wrong == NULL && machine_open(&it, roms, PAC_SWITCHES) != PAC_DONE)
+        wrong = "the board isn't made";
+    if (wrong == NULL)
+        now = 0, play_again(wanted);
+    return wrong;
 }
 
 /* Reads the content again where it was saved since. */
@@ -124,16 +115,14 @@ static void look_at_source(void)
 {
     static struct timespec last;
     struct stat about;
-    if (stat(words.content, &about) != 0 || (about.st_mtim.tv_sec == last.tv_sec && about.st_mtim.tv_nsec == last.tv_nsec))
+    if (stat(content, &about) != 0 || memcmp(&about.st_mtim, &last, sizeof last) == 0)
         return;
-    bool is_first = last.tv_sec == 0;
+    const char *wrong = last.tv_sec == 0 ? "" : open_content();
     last = about.st_mtim;
-    if (is_first)
-        return;
-    const char *wrong = open_content();
-    fprintf(stderr, "player: %s: %s\n", words.content, wrong == NULL ? "played to the same moment" : wrong);
-    if (window != NULL)
+    if (wrong == NULL || *wrong != '\0') {
+        fprintf(stderr, "player: %s: %s\n", content, wrong == NULL ? "played to the same moment" : wrong);
         SDL_SetWindowTitle(window, wrong == NULL ? "pacboard" : wrong);
+    }
 }
 
 /* What is held on the keys and the gamepad. */
@@ -141,162 +130,138 @@ static uint16_t held_now(void)
 {
     const uint8_t *down = SDL_GetKeyboardState(NULL);
     unsigned mask = 0;
-    for (int at = 0; at < KEYS; at++)
-        mask |= down[keys[at].key] ? keys[at].held : 0u;
-    for (int at = 0; pad != NULL && at < BUTTONS; at++)
-        mask |= SDL_GameControllerGetButton(pad, buttons[at].button) ? buttons[at].held : 0u;
+    for (int at = 0; at < INPUTS; at++)
+        if (down[inputs[at].key] || (pad != NULL && SDL_GameControllerGetButton(pad, inputs[at].button)))
+            mask |= 1u << at;
     int x = pad == NULL ? 0 : SDL_GameControllerGetAxis(pad, SDL_CONTROLLER_AXIS_LEFTX);
     int y = pad == NULL ? 0 : SDL_GameControllerGetAxis(pad, SDL_CONTROLLER_AXIS_LEFTY);
     mask |= (x < -DEAD ? PAC_P1_LEFT : x > DEAD ? PAC_P1_RIGHT : 0u) | (y < -DEAD ? PAC_P1_UP : y > DEAD ? PAC_P1_DOWN : 0u);
     return (uint16_t)mask;
 }
 
-/* Does what a key of the player's own stands for. */
-static void press(SDL_Scancode key)
-{
-    if (key == SDL_SCANCODE_ESCAPE)
-        is_over = true;
-    else if (key == SDL_SCANCODE_P)
-        is_paused = !is_paused;
-    else if (key == SDL_SCANCODE_N)
-        is_paused = true, play_frame(held_now(), true);
-    else if (key == SDL_SCANCODE_BACKSPACE)
-        go_to(is_paused ? now - 1 : now - 2 * EACH);
-    else if (key == SDL_SCANCODE_F5)
-        now = 0, open_content();
-}
-
 /* Takes what has happened to the window. */
 static void take_events(void)
 {
-    for (SDL_Event event; SDL_PollEvent(&event);)
-        if (event.type == SDL_QUIT)
+    for (SDL_Event event; SDL_PollEvent(&event);) {
+        SDL_Scancode key = event.type == SDL_KEYDOWN ? event.key.keysym.scancode : SDL_SCANCODE_UNKNOWN;
+        if (event.type == SDL_QUIT || key == SDL_SCANCODE_ESCAPE)
             is_over = true;
-        else if (event.type == SDL_KEYDOWN)
-            press(event.key.keysym.scancode);
+        else if (key == SDL_SCANCODE_P)
+            is_paused = !is_paused;
+        else if (key == SDL_SCANCODE_N)
+            is_paused = true, play_frame(held_now(), false);
+        else if (key == SDL_SCANCODE_BACKSPACE)
+            go_to(is_paused ? now - 1 : now - 2 * EACH);
+        else if (key == SDL_SCANCODE_F5)
+            now = 0, open_content();
         else if (event.type == SDL_CONTROLLERDEVICEADDED && pad == NULL)
             pad = SDL_GameControllerOpen(event.cdevice.which);
         else if (event.type == SDL_CONTROLLERDEVICEREMOVED && pad != NULL)
             SDL_GameControllerClose(pad), pad = NULL;
-}
-
-/* Shows the picture. */
-static void show(void)
-{
-    SDL_Rect whole = {(int)(words.turn % 2 * (PAC_HEIGHT - PAC_WIDTH) / 2 * words.scale), (int)(words.turn % 2 * (PAC_WIDTH - PAC_HEIGHT) / 2 * words.scale),
-                      (int)(PAC_WIDTH * words.scale), (int)(PAC_HEIGHT * words.scale)};
-    if (pac_live_draw(&it.live, rgba, PAC_RGBA_SIZE) == PAC_DONE)
-        SDL_UpdateTexture(texture, NULL, rgba, 4 * PAC_WIDTH);
-    SDL_RenderClear(renderer);
-    SDL_RenderCopyEx(renderer, texture, NULL, &whole, -90.0 * (double)words.turn, NULL, SDL_FLIP_NONE);
-    SDL_RenderPresent(renderer);
+    }
 }
 
 /* Opens the window, and the sound where there is one. */
 static bool open_window(void)
 {
     SDL_AudioSpec wanted = {.freq = PAC_SAMPLE_RATE, .format = AUDIO_S16SYS, .channels = 1, .samples = 1024};
-    if (SDL_Init(SDL_INIT_VIDEO | SDL_INIT_GAMECONTROLLER) != 0)
+    int width = turn % 2 ? PAC_HEIGHT : PAC_WIDTH, height = turn % 2 ? PAC_WIDTH : PAC_HEIGHT;
+    if (SDL_Init(SDL_INIT_VIDEO | SDL_INIT_GAMECONTROLLER) != 0
+        || SDL_CreateWindowAndRenderer(width * (int)scale, height * (int)scale, 0, &window, &renderer) != 0)
         return false;
-    int width = (int)(words.scale * (words.turn % 2 ? PAC_HEIGHT : PAC_WIDTH)), height = (int)(words.scale * (words.turn % 2 ? PAC_WIDTH : PAC_HEIGHT));
-    window = SDL_CreateWindow("pacboard", SDL_WINDOWPOS_CENTERED, SDL_WINDOWPOS_CENTERED, width, height, 0);
-    renderer = window == NULL ? NULL : SDL_CreateRenderer(window, -1, 0);
-    texture = renderer == NULL ? NULL : SDL_CreateTexture(renderer, SDL_PIXELFORMAT_RGBA32, SDL_TEXTUREACCESS_STREAMING, PAC_WIDTH, PAC_HEIGHT);
+    SDL_SetWindowTitle(window, "pacboard"), SDL_RenderSetLogicalSize(renderer, width, height);
+    texture = SDL_CreateTexture(renderer, SDL_PIXELFORMAT_BGRA32, SDL_TEXTUREACCESS_STREAMING, PAC_WIDTH, PAC_HEIGHT);
     if (SDL_InitSubSystem(SDL_INIT_AUDIO) == 0 && (sound = SDL_OpenAudioDevice(NULL, 0, &wanted, NULL, 0)) != 0)
         SDL_PauseAudioDevice(sound, 0);
     return texture != NULL;
+}
+
+/* Shows the picture. */
+static void show(void)
+{
+    int aside = turn % 2 ? (PAC_HEIGHT - PAC_WIDTH) / 2 : 0;
+    SDL_Rect whole = {aside, -aside, PAC_WIDTH, PAC_HEIGHT};
+    if (pac_live_draw(&it.live, PAC_BGRA, pixels, PAC_RGBA_SIZE) == PAC_DONE)
+        SDL_UpdateTexture(texture, NULL, pixels, 4 * PAC_WIDTH);
+    SDL_RenderClear(renderer);
+    SDL_RenderCopyEx(renderer, texture, NULL, &whole, -90.0 * (double)turn, NULL, SDL_FLIP_NONE);
+    SDL_RenderPresent(renderer);
 }
 
 /* Waits until a frame is due: by the sound's queue where there is sound, and by the clock elsewhere. */
 static void wait_for_frame(void)
 {
     static uint64_t due;
-    uint64_t tick = SDL_GetPerformanceCounter(), frame = SDL_GetPerformanceFrequency() * PAC_FRAME_MICROSECONDS / 1000000;
-    if (sound != 0 && !is_paused)
-        for (int waits = 0; waits < 20 && SDL_GetQueuedAudioSize(sound) > MOST_QUEUED; waits++)
-            SDL_Delay(1);
-    else if (due > tick && due - tick <= frame)
-        SDL_Delay((uint32_t)((due - tick) * 1000 / SDL_GetPerformanceFrequency()));
-    due = (due + frame < tick ? tick : due) + frame;
+    uint64_t frame = SDL_GetPerformanceFrequency() * PAC_FRAME_MICROSECONDS / 1000000;
+    bool is_heard = sound != 0 && !is_paused;
+    for (int waits = 0; waits < 20 && (is_heard ? SDL_GetQueuedAudioSize(sound) > MOST_QUEUED : SDL_GetPerformanceCounter() < due); waits++)
+        SDL_Delay(1);
+    due = SDL_max(due, SDL_GetPerformanceCounter() - frame) + frame;
 }
 
-/* Tells that the board is at the address of --to, where it is; with --frames that is the end. */
-static void tell_address(void)
+/* Closes a file, if there is one: whether all of it is written. */
+static bool is_closed(FILE *file)
 {
-    if (is_met)
-        fprintf(stderr, "player: at %04lX in frame %ld, T-state %llu\n", (unsigned long)words.to, now, (unsigned long long)machine_time(&it));
-    is_over = is_over || (is_met && words.frames >= 0);
+    bool has_failed = file == NULL || ferror(file) != 0;
+    return file != NULL && (fclose(file) == 0) & !has_failed;
 }
 
 /* Writes what was played as a script. */
 static bool write_script(void)
 {
-    FILE *file = fopen(words.record, "wb");
+    FILE *file = fopen(record, "wb");
     for (long at = 0, next; file != NULL && at < now; at = next) {
         for (next = at; next < now && played[next] == played[at];)
             next++;
-        fprintf(file, "%ld ", next - at);
-        const char *comma = "";
-        for (int key = 0; key < KEYS; key++)
-            if (played[at] & keys[key].held)
-                fprintf(file, "%s%s", comma, keys[key].name), comma = ",";
-        fprintf(file, "%s\n", played[at] == 0 ? "-" : "");
+        fprintf(file, "%ld%s", next - at, played[at] == 0 ? " -" : "");
+        for (int bit = 0, before = ' '; bit < INPUTS; bit++)
+            if (played[at] >> bit & 1)
+                fprintf(file, "%c%s", before, inputs[bit].name), before = ',';
+        fputc('\n', file);
     }
-    bool has_failed = file == NULL || ferror(file);
-    return !(file == NULL || (fclose(file) != 0) | has_failed);
+    return is_closed(file);
 }
 
 /* Writes the last picture. */
 static bool write_picture(void)
 {
-    FILE *file = fopen(words.picture, "wb");
-    if (file == NULL || pac_live_draw(&it.live, rgba, PAC_RGBA_SIZE) != PAC_DONE)
-        return false;
-    fprintf(file, "P6\n%d %d\n255\n", PAC_WIDTH, PAC_HEIGHT);
-    for (size_t at = 0; at < sizeof rgba; at += 4)
-        fwrite(rgba + at, 1, 3, file);
-    bool has_failed = ferror(file);
-    return !((fclose(file) != 0) | has_failed);
-}
-
-/* A number of a word, or -1. */
-static long number(const char *word, long most, int base)
-{
-    char *end;
-    long found = strtol(word, &end, base);
-    return *word == '\0' || *end != '\0' || found < 0 || found > most ? -1 : found;
+    FILE *file = fopen(picture, "wb");
+    if (file != NULL && pac_live_draw(&it.live, PAC_RGBA, pixels, PAC_RGBA_SIZE) == PAC_DONE)
+        fprintf(file, "P6\n%d %d\n255\n", PAC_WIDTH, PAC_HEIGHT);
+    for (size_t at = 0; file != NULL && at < sizeof pixels; at += 4)
+        fwrite(pixels + at, 1, 3, file);
+    return is_closed(file);
 }
 
 /* Reads the words of the command line. */
 static bool read_words(int count, char **word)
 {
     for (int at = 1; at < count; at++) {
-        const char *name = word[at], *value = at + 1 < count ? word[at + 1] : "";
-        const char **text = strcmp(name, "--held") == 0 ? &words.held : strcmp(name, "--record") == 0 ? &words.record : strcmp(name, "--picture") == 0 ? &words.picture : NULL;
-        long *found = strcmp(name, "--frames") == 0 ? &words.frames : strcmp(name, "--scale") == 0 ? &words.scale : strcmp(name, "--turn") == 0 ? &words.turn : strcmp(name, "--to") == 0 ? &words.to : NULL;
-        if (text == NULL && found == NULL && (name[0] == '-' || words.content != NULL))
-            return false;
-        if (text == NULL && found == NULL) {
-            words.content = name;
+        const struct word *known = words;
+        while (known->name != NULL && strcmp(known->name, word[at]) != 0)
+            known++;
+        if (known->name == NULL && word[at][0] != '-' && content == NULL) {
+            content = word[at];
             continue;
         }
-        if (text != NULL)
-            *text = value;
-        else if ((*found = number(value, found == &words.to ? 0xFFFF : found == &words.frames ? MOST_FRAMES : found == &words.turn ? 3 : 8, found == &words.to ? 16 : 10)) < 0)
+        if (known->name == NULL || ++at == count)
             return false;
-        if (++at == count)
+        char *end = word[at];
+        long number = known->number == NULL ? 0 : strtol(word[at], &end, known->base);
+        if (known->text != NULL)
+            *known->text = word[at];
+        else if (end == word[at] || *end != '\0' || number < 0 || number > known->most)
             return false;
+        else
+            *known->number = number;
     }
-    return words.content != NULL && words.scale > 0;
+    return content != NULL && scale > 0;
 }
 
-/* Reads what --held has. */
+/* Reads what --held has: two bytes for each frame, the low one first, as the processors have them for which there is the library. */
 static bool read_held(void)
 {
-    static uint8_t bytes[2 * MOST_FRAMES];
-    long size = content_file(words.held, bytes, sizeof bytes);
-    for (given_frames = 0; given_frames < size / 2; given_frames++)
-        given[given_frames] = (uint16_t)(bytes[2 * given_frames] | bytes[2 * given_frames + 1] << 8);
+    long size = content_file(held, (uint8_t *)played, sizeof played);
     return size >= 0 && size % 2 == 0;
 }
 
@@ -304,20 +269,18 @@ int main(int count, char **word)
 {
     if (!read_words(count, word))
         return fprintf(stderr, "usage: player CONTENT [--held FILE] [--frames N] [--to ADDRESS] [--record SCRIPT] [--picture PPM] [--scale N] [--turn N]\n"), 2;
-    const char *wrong = !pac_matches() ? "the header is another library's" : words.held != NULL && !read_held() ? "what is held can't be read" : open_content();
+    const char *wrong = !pac_matches() ? "the header is another library's" : held != NULL && !read_held() ? "what is held can't be read" : open_content();
     if (wrong != NULL)
-        return fprintf(stderr, "player: %s: %s\n", words.content, wrong), 4;
+        return fprintf(stderr, "player: %s: %s\n", content, wrong), 4;
     if (!open_window())
         return fprintf(stderr, "player: %s\n", SDL_GetError()), 3;
-    while (!is_over && (words.frames < 0 || now < words.frames)) {
-        take_events();
-        look_at_source();
-        if (!is_paused && !is_over && !play_frame(words.held == NULL ? held_now() : now < given_frames ? given[now] : 0, true))
-            is_paused = true, tell_address();
-        show();
-        wait_for_frame();
+    while (!is_over && (most_frames < 0 || now < most_frames)) {
+        take_events(), look_at_source();
+        if (!is_paused && !is_over)
+            is_paused = !play_frame(held == NULL || now >= MOST_FRAMES ? held_now() : played[now], false);
+        show(), wait_for_frame();
     }
-    bool is_written = (words.record == NULL || write_script()) & (words.picture == NULL || write_picture());
+    bool is_written = (record == NULL || write_script()) & (picture == NULL || write_picture());
     SDL_Quit();
     return is_written ? 0 : (fprintf(stderr, "player: script or picture can't be written\n"), 3);
 }

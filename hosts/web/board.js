@@ -12,6 +12,7 @@ const HANDLE = 24; // bytes: where the memory of a live board is, its size, and 
 const SIZES = {
     closed: HANDLE, roms: 25120, bytes: BLOCK, rgba: 4 * WIDTH * HEIGHT, samples: 2 * ROOM, ran: 32, registers: 48, places: ADDRESSES,
 };
+const RGBA = 0; // the order of a pixel's bytes
 const ALIGNED = 16; // where memory of a live board begins
 const WHY = ['', 'time', 'place', 'stop', 'full']; // why `pac_live_until` ended, by its codes
 
@@ -292,7 +293,7 @@ export class Board {
     // The picture as it stands: red, green, blue and 255 for each pixel, row by row. The next picture of a board of this instance is written over it.
     draw() {
         const { at, view } = this.#memory;
-        this.#call('pac_live_draw', ...this.#memory.part('rgba'));
+        this.#call('pac_live_draw', RGBA, ...this.#memory.part('rgba'));
         return new Uint8ClampedArray(view.buffer, Number(at.rgba), SIZES.rgba);
     }
 

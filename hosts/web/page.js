@@ -29,7 +29,6 @@ class Host {
         this.dry = 0; // samples that came too late
         this.isPlaying = false;
         this.context = at('picture').getContext('2d');
-        this.image = this.context.createImageData(WIDTH, HEIGHT);
         this.show();
     }
 
@@ -44,8 +43,7 @@ class Host {
 
     // Shows the picture as it stands.
     show() {
-        this.image.data.set(this.board.draw());
-        this.context.putImageData(this.image, 0, 0);
+        this.context.putImageData(new ImageData(this.board.draw(), WIDTH, HEIGHT), 0, 0);
     }
 
     // Goes back to the last snapshot but one: a second or two. A board that had stopped goes on from there.

@@ -1,6 +1,6 @@
 //! Sixteen pixels at a time: what colour numbers pick of a palette by vectors, and that woven into pixels.
 
-ghost use Rattle.std.specs.Prelude.{◌≡◌, ◌<◌, ◌≤◌, ◌+◌, ◌*◌, ◌++◌, ℕ, drop, length, map, slice_index, take};
+ghost use Rattle.std.specs.Prelude.{◌≡◌, ◌<◌, ◌≤◌, ◌+◌, ◌*◌, ◌++◌, ℕ, drop, length, map, reverse, slice_index, take};
 ghost use Rattle.std.specs.List.{flat_map};
 ghost use Rattle.pac_colour.specs.Colours.{numbers};
 ghost use Rattle.pac_board.specs.PictureState.{palette_of};
@@ -49,6 +49,17 @@ impl Channels {
             reds,
             greens,
             blues,
+        }
+    }
+
+    /// The palette whose colours are told backwards: blue, green and red.
+    pub fn backwards(&self) -> Channels
+        ensures { result ≡ map reverse self.now }
+    {
+        Channels {
+            reds: self.blues,
+            greens: self.greens,
+            blues: self.reds,
         }
     }
 }

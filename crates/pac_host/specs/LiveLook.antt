@@ -1,5 +1,5 @@
 -- Believed: what a host sees of a live board: memory, registers and the picture.
-use Rattle.std.specs.Prelude.{◌≡◌, ◌≢◌, ℕ, ◌+◌, List, length, Ok, Err}
+use Rattle.std.specs.Prelude.{◌≡◌, ◌≢◌, ℕ, ◌+◌, List, length, map, reverse, nat_eq, if◌then◌else◌, Ok, Err}
 use Rattle.pac_board.specs.InterruptMode.{InterruptMode}
 use Rattle.pac_board.specs.InterruptModeVariants.{Zero, One, Two}
 use Rattle.pac_board.specs.MemoryContents.{read_of}
@@ -68,9 +68,15 @@ registers_of board =
 abbrev pub Telling : (registers_after : PacRegisters) → BoardCall
 Telling registers_after answer old new = (answer ≡ Ok tt) × (registers_after ≡ registers_of old) × (new ≡ old)
 
+-- a palette whose colours have their bytes in this order: 0 is red, green and blue, and any other number blue, green and red
+abbrev pub palette_in : (order : ℕ) → (palette : List (List ℕ)) → List (List ℕ)
+palette_in order palette = if nat_eq order 0 then palette else map reverse palette
+
 -- the picture as it stands, in the colours of the board's ROMs
-abbrev pub Drawing : (rgba rgba_after : List ℕ) → BoardCall
-Drawing rgba rgba_after (Ok done) old new =
-    (length rgba ≡ rgba_size) × (rgba_after ≡ rgba_of (palette_of old.set.colours) old.state.now.board.lines) × (new ≡ old)
-Drawing rgba rgba_after (Err WrongLength) old new = (length rgba ≢ rgba_size) × (new ≡ old) × (rgba_after ≡ rgba)
-Drawing rgba rgba_after (Err fault) old new = ⊥
+abbrev pub Drawing : (order : ℕ) (pixels pixels_after : List ℕ) → BoardCall
+Drawing order pixels pixels_after (Ok done) old new =
+    (length pixels ≡ rgba_size)
+    × (pixels_after ≡ rgba_of (palette_in order (palette_of old.set.colours)) old.state.now.board.lines) × (new ≡ old)
+Drawing order pixels pixels_after (Err WrongLength) old new =
+    (length pixels ≢ rgba_size) × (new ≡ old) × (pixels_after ≡ pixels)
+Drawing order pixels pixels_after (Err fault) old new = ⊥

@@ -265,14 +265,15 @@ pub extern "C" fn pac_live_registers(live: &mut PacLive, registers: &mut PacRegi
     code(live_look::tell(live, registers))
 }
 
-/// Draws the picture as it stands: as `pac_draw`. `Closed`.
-/// `WrongLength`: `rgba` hasn't 258,048 bytes.
+/// Draws the picture as it stands, each pixel by four bytes in this order: 0 is red, green, blue and 255, as `pac_draw` has them, and any
+/// other number blue, green, red and 255. `Closed`.
+/// `WrongLength`: `pixels` hasn't 258,048 bytes.
 #[unsafe(no_mangle)]
-pub extern "C" fn pac_live_draw(live: &mut PacLive, rgba: &mut [u8]) -> u32
-    ensures { Answers (λ answer. live_specs.Lives (rgba.new ≡ rgba.old) (live_look_specs.Drawing rgba.old rgba.new)
-        answer live.old live.new) result }
+pub extern "C" fn pac_live_draw(live: &mut PacLive, order: u8, pixels: &mut [u8]) -> u32
+    ensures { Answers (λ answer. live_specs.Lives (pixels.new ≡ pixels.old)
+        (live_look_specs.Drawing order pixels.old pixels.new) answer live.old live.new) result }
 {
-    code(live_look::draw(live, rgba))
+    code(live_look::draw(live, order, pixels))
 }
 
 /// Gives the picture as it stands by its colour numbers, 0 to 15: 224 rows from the top, each of 288 from the left. And the colours of the

@@ -1,6 +1,7 @@
 //! What a host sees of a live board: memory, registers and the picture.
 
 ghost use Rattle.std.specs.Prelude.{◌≡◌, length};
+ghost use Rattle.pac_board.specs.PictureState.{palette_of};
 ghost use Rattle.pac_host.specs.Live as live_specs;
 ghost use Rattle.pac_host.specs.LiveLook as look;
 
@@ -172,22 +173,34 @@ pub(crate) fn peek(live: &mut PacLive, address: u16, bytes: &mut [u8]) -> Result
     peek_board(live.board(), address, bytes)
 }
 
-/// Draws the picture of a board as it stands.
-fn draw_board(board: &mut Board, rgba: &mut [u8]) -> Result<(), HostFault>
-    ensures { look.Drawing rgba.old rgba.new result board.old board.new }
+/// The palette of a board, whose colours have their bytes in this order.
+fn palette_in(order: u8, board: &Board) -> Channels
+    ensures { result ≡ look.palette_in order (palette_of board.now.set.colours) }
 {
-    if rgba.len() != RGBA_SIZE {
+    let palette = Channels::of(board.set().colours());
+    if order == 0 {
+        palette
+    } else {
+        palette.backwards()
+    }
+}
+
+/// Draws the picture of a board as it stands.
+fn draw_board(board: &mut Board, order: u8, pixels: &mut [u8]) -> Result<(), HostFault>
+    ensures { look.Drawing order pixels.old pixels.new result board.old board.new }
+{
+    if pixels.len() != RGBA_SIZE {
         return Err(HostFault::WrongLength);
     }
-    let palette = Channels::of(board.set().colours());
-    put_lines(rgba, &palette, board.picture().lines().raw());
+    let palette = palette_in(order, board);
+    put_lines(pixels, &palette, board.picture().lines().raw());
     Ok(())
 }
 
 /// Draws the picture of a live board.
-pub(crate) fn draw(live: &mut PacLive, rgba: &mut [u8]) -> Result<(), HostFault>
-    ensures { live_specs.Lives (rgba.new ≡ rgba.old) (look.Drawing rgba.old rgba.new) result live.old live.new }
+pub(crate) fn draw(live: &mut PacLive, order: u8, pixels: &mut [u8]) -> Result<(), HostFault>
+    ensures { live_specs.Lives (pixels.new ≡ pixels.old) (look.Drawing order pixels.old pixels.new) result live.old live.new }
 {
     check_open(live)?;
-    draw_board(live.board(), rgba)
+    draw_board(live.board(), order, pixels)
 }
