@@ -1,4 +1,4 @@
 pub mod Blocks
 pub mod DaaByBits
-pub mod Pairs
+pub mod OnLiterals
 pub mod Restarts

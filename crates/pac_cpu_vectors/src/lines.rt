@@ -1,4 +1,5 @@
 //! The lines of tools/check/vectors.txt, a function a heading: the definition of a step comes to what each says. Made by tools/make/make-vectors.
+#![tactic(auto, unfolding(crate::proofs::OnLiterals::step_on_literals))]
 
 ghost use Rattle.pac_cpu_vectors.specs.Vectors.{EachLineHolds, EachLineResets};
 ghost use Rattle.pac_cpu_vectors.specs.LoadsOfBytes.{loads_of_bytes_lines};

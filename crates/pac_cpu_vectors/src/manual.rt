@@ -1,4 +1,5 @@
 //! What the manual prints of an instruction, as one equation, where the definitions say it in several.
+#![tactic(auto, unfolding(crate::proofs::OnLiterals::step_on_literals))]
 
 ghost use Rattle.pac_cpu_vectors.specs.Decimals.{EachDaaIsByBits};
 ghost use Rattle.pac_cpu_vectors.specs.DaaLines.{EachDaaLineHolds};

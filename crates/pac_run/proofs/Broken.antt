@@ -1,12 +1,11 @@
 -- What a film and a wave file have where one of them refused, and what a player's run comes to then.
-use Rattle.std.proofs.Common.{◌≡◌, ℕ, ℤ, pos, ◌+◌, ◌-◌, ◌≤◌, ◌<◌, List, [], ◌∷◌, ◌++◌, length, replicate}
-use Rattle.std.proofs.Common.{Some, Result, Ok, Err, inl, inr}
-use Rattle.std.proofs.Common.{refl, sym, ap, subst, ◌∙◌, append_assoc, append-nil, length-append, arith}
+use Rattle.std.proofs.lemmas.Grind.{common_steps}
+use Rattle.std.proofs.Common.{◌≡◌, ℕ, ℤ, pos, ◌+◌, ◌-◌, ◌≤◌, ◌<◌, List, [], ◌∷◌, ◌++◌, length, replicate, rules, Some, Result, Ok, Err, inl}
+use Rattle.std.proofs.Common.{inr, refl, sym, ap, subst, ◌∙◌, append_assoc, append-nil, length-append, arith}
 use Rattle.std.specs.Prelude.{IfSome}
 use mathlib.Core.List.{IsPrefix}
 use Rattle.pac_media.specs.CountedProofs.{Stops}
 use Rattle.pac_media.specs.CountedLaws.{HasStopped}
-use Rattle.pac_media.specs.CountedFile.{Counted}
 use Rattle.pac_media.specs.WriteFault.{WriteFault}
 use Rattle.pac_media.specs.Writes.{StopsAfter}
 use Rattle.pac_media.proofs.Files.{Joins, stops-after, stops-within}
@@ -59,19 +58,14 @@ module _ {F W : Type 0} (at : Reel F W) (total : ℕ) where
     stopped = it.fails.after at.wave (wave_so_far total taken) it.has.sound
 
     enough : header_size ≤ stopped.taken
-    enough =
-        let past = it.fails.past at.wave (wave_so_far total taken) it.has.sound in
-        let least = it.has.past_header in
-        omega (arith, past, least)
+    enough = search rules
 
     heard-there : IsHeard (stopped.taken - header_size) (taken ++ left) taken
     heard-there =
         let past = it.fails.past at.wave (wave_so_far total taken) it.has.sound in
         let less = stopped.stopped.some_left in
         let long = length-append (wave_so_far total taken) it.bytes in
-        let first = wave-long total taken in
-        is-heard (stopped.taken - header_size) taken left (it.has.settled (stopped.taken - header_size) (omega (arith, past, enough)))
-        (λ all. it.ends ((stopped.taken - header_size) - size sample_bytes taken) (omega (arith, all, less, long, first, enough)))
+        let first = wave-long total taken in grind (arith, enough, is-heard, size)
 
     pub wave-fails : StopsThere (taken ++ left) taken new which.Wave told.count
     wave-fails = (
@@ -83,9 +77,7 @@ module _ {F W : Type 0} (at : Reel F W) (total : ℕ) where
           count_is = it.fails.told ∙ stopped.count_is;
         };
         header_first = λ few. absurd (omega (arith, few, enough));
-        images = λ past. subst (λ (text : List ℕ). at.took_f at.frames text new.frames.writer)
-            (heard-images (stopped.taken - header_size) (taken ++ left) taken heard-there)
-            (subst (λ (file : Counted F). at.took_f at.frames (images_text taken) file.writer) (sym it.frames) it.has.images.written);
+        images = grind (arith, heard-images, heard-there);
       },
       enough,
       heard-there,
@@ -133,9 +125,7 @@ module _ {F W : Type 0} (at : Reel F W) (total : ℕ) where
       all = taken ++ Show image ∷ rest
 
       shown-is : shown_before (size image_bytes taken + stop.taken) all ≡ taken
-      shown-is =
-          let less = stop.stopped.some_left in
-          is-shown (size image_bytes taken + stop.taken) taken image rest (omega arith) (omega (arith, less))
+      shown-is = grind (arith, is-shown, size)
 
       at-image : StopsThere all taken new which.Frames refused.told.count
       at-image = (
@@ -147,8 +137,7 @@ module _ {F W : Type 0} (at : Reel F W) (total : ℕ) where
                 (append_assoc (images_text taken) (image_bytes (Show image)) (images_text rest)
                 ∙ sym (frames-append taken (Show image ∷ rest)))
                 (stops-within (stops-after joined has.images.written stop.stopped) (images_text rest));
-            count_is = let told = refused.frames.told in let counted = stop.count_is in let before = has.images.count_is in
-                omega (arith, told, counted, before);
+            count_is = search rules;
           };
           sound = subst (λ outputs. at.took_w at.wave (wave_so_far total outputs) new.wave.file.writer) (sym shown-is)
               (subst (λ (bytes : List ℕ). at.took_w at.wave bytes new.wave.file.writer) (append-nil (wave_so_far total taken))
@@ -178,9 +167,7 @@ module _ {F W : Type 0} (at : Reel F W) (total : ℕ) where
       let taken = cut.taken in
       let refuses = cut.refuses in
       let rest = refuses.rest ++ among.0 in
-      let all : taken ++ (refuses.first ∷ rest) ≡ outputs =
-      sym (append_assoc taken (refuses.first ∷ refuses.rest) among.0)
-      ∙ (ap (λ left. (taken ++ left) ++ among.0) (sym refuses.left_is) ∙ among.1) in
+      let all : taken ++ (refuses.first ∷ rest) ≡ outputs = grind (arith, common_steps) in
       subst (λ outputs. StopsThere outputs taken new fault.output fault.count) all
       (at-next taken rest refuses.asked new (filmed at total taken begun refuses.before) joined refuses.first fault
       refuses.refusal told)
@@ -199,8 +186,7 @@ module _ {F W : Type 0} (at : Reel F W) (total : ℕ) where
         bytes = silence;
         fails = fails;
         more = [];
-        whole = append-nil (wave_so_far total outputs ++ silence)
-            ∙ (zeros-last at total outputs mid has ∙ ap (wave_file_text total) (sym (append-nil outputs)));
+        whole = cc (append-nil (wave_so_far total outputs ++ silence), zeros-last at total outputs mid has, append-nil outputs);
         ends = λ n few. refl;
       }))
 
@@ -214,16 +200,9 @@ module _ {F W : Type 0} (at : Reel F W) (total : ℕ) where
       (finished.after at.wave (wave_so_far total taken) has.sound).written)
   sound-of taken mid wave_now has (Err fault) fails =
       let stop = fails.after at.wave (wave_so_far total taken) has.sound in
-      let past = fails.past at.wave (wave_so_far total taken) has.sound in
-      let least = has.past_header in
       inr (record {
         count = fault.count;
-        sound = record {
-          taken = stop.taken;
-          stopped = subst (λ (text : List ℕ). StopsAfter at.took_w at.refused_w at.wave text stop.taken wave_now.file.writer)
-              (append-nil (wave_so_far total taken)) stop.stopped;
-          count_is = fails.told ∙ stop.count_is;
-        };
-        past_header = omega (arith, past, least);
-        no_picture = has.settled (stop.taken - header_size) (omega (arith, past, least));
+        sound = search rules;
+        past_header = omega arith;
+        no_picture = has.settled (stop.taken - header_size) (omega arith);
       })

@@ -1,7 +1,6 @@
 -- What a run leaves of writers that are lent, it leaves of their owners.
-use Rattle.std.proofs.Common.{ℕ, List, Option, Result, Ok, Err}
+use Rattle.std.proofs.Common.{ℕ, List, Option, Result, Ok, Err, arith, rules}
 use Rattle.std.specs.Str.Lines.{lines}
-use Rattle.pac_board_course.specs.Stretches.{total_frames}
 use Rattle.pac_board_course.specs.State.{BoardValue}
 use Rattle.pac_board_course.specs.declared.outcome.Outcome.{Outcome}
 use Rattle.pac_run.specs.declared.fault.Output.{Output as Which}
@@ -12,18 +11,13 @@ use Rattle.pac_run.specs.declared.inputs.RunInputs.{RunInputs}
 use Rattle.pac_run.specs.Debugs.{Debugs, IsBrokenAt, setting_of_plan}
 use Rattle.pac_run.specs.Plan.{Plan}
 use Rattle.pac_run.specs.Resumes.{IsSaveCutAt, Resumes, contents_from}
-use Rattle.pac_run.specs.Run.{Writing, Writings, RunContents, NothingWritten, Runs, IsCutAt, IsRunWhole, contents_of, trace_of}
-use Rattle.pac_run.proofs.Lent.{Carries, text-stops, frames-stop, wave-stops, all-told, told-till, told-at-wave, line-untold}
+use Rattle.pac_run.specs.Run.{Writing, Writings, RunContents, NothingWritten, Runs, IsCutAt, IsRunWhole, contents_of}
+use Rattle.pac_run.proofs.Lent.{Carries, text-stops, frames-stop, wave-stops, told-till, told-at-wave, line-untold}
 
 module _ {F G W V L K R Q : Type 0} (to : Writings F W L R) (other : Writings G V K Q) (shows : Carries to.frames other.frames)
     (sounds : Carries to.wave other.wave) (lists : Carries to.listing other.listing) (reports : Carries to.report other.report) where
   nothing : NothingWritten to → NothingWritten other
-  nothing none = record {
-    frames = shows.still none.frames;
-    wave = sounds.still none.wave;
-    listing = lists.still none.listing;
-    report = reports.still none.report;
-  }
+  nothing none = search rules
 
   whole : (run : RunContents) (outcome : Outcome) → IsRunWhole run to outcome → IsRunWhole run other outcome
   whole run outcome files = record {
@@ -61,8 +55,7 @@ module _ {F G W V L K R Q : Type 0} (to : Writings F W L R) (other : Writings G 
   cut run which.Text count at = at
 
   pub runs : (inputs : RunInputs) (answer : Result Outcome RunFault) → Runs inputs to answer → Runs inputs other answer
-  runs inputs (Ok outcome) ran =
-      record { plan = ran.plan; plan_is = ran.plan_is; holds = whole (contents_of ran.plan inputs.dip) outcome ran.holds }
+  runs inputs (Ok outcome) ran = search rules
   runs inputs (Err (fault.Write output count)) ran =
       record { plan = ran.plan; plan_is = ran.plan_is; holds = cut (contents_of ran.plan inputs.dip) output count ran.holds }
   runs inputs (Err fault.NoMemory) none = nothing none
@@ -74,45 +67,16 @@ module _ {F G W V L K R Q : Type 0} (to : Writings F W L R) (other : Writings G 
   module _ {S : Type 0} (state : Writing S) (inputs : RunInputs) (from : Option (List ℕ)) where
     save-cut : (plan : Plan) (board : BoardValue) (output : Which) (count : ℕ)
         → IsSaveCutAt plan inputs.dip from to state output count board → IsSaveCutAt plan inputs.dip from other state output count board
-    save-cut plan board which.State count (files, stops) =
-        (whole (contents_from plan inputs.dip from board) (contents_from plan inputs.dip from board).outcome files, stops)
-    save-cut plan board which.Frames count (at, unsaved) =
-        (cut (contents_from plan inputs.dip from board) which.Frames count at, unsaved)
-    save-cut plan board which.Wave count (at, unsaved) =
-        (cut (contents_from plan inputs.dip from board) which.Wave count at, unsaved)
-    save-cut plan board which.Listing count (at, unsaved) =
-        (cut (contents_from plan inputs.dip from board) which.Listing count at, unsaved)
-    save-cut plan board which.Report count (at, unsaved) =
-        (cut (contents_from plan inputs.dip from board) which.Report count at, unsaved)
+    save-cut plan board which.State count (files, stops) = search rules
+    save-cut plan board which.Frames count (at, unsaved) = (cut (contents_from plan inputs.dip from board) which.Frames count at, unsaved)
+    save-cut plan board which.Wave count (at, unsaved) = (cut (contents_from plan inputs.dip from board) which.Wave count at, unsaved)
+    save-cut plan board which.Listing count (at, unsaved) = (cut (contents_from plan inputs.dip from board) which.Listing count at, unsaved)
+    save-cut plan board which.Report count (at, unsaved) = (cut (contents_from plan inputs.dip from board) which.Report count at, unsaved)
     save-cut plan board which.Text count (at, unsaved) = (at, unsaved)
 
     pub resumes : (answer : Result Outcome RunFault) → Resumes inputs from to state answer → Resumes inputs from other state answer
-    resumes (Ok outcome) ran =
-        let saved = ran.holds.holds in
-        record {
-          plan = ran.plan;
-          plan_is = ran.plan_is;
-          holds = record {
-            board = ran.holds.board;
-            is_first = ran.holds.is_first;
-            holds = record {
-              files = whole (contents_from ran.plan inputs.dip from ran.holds.board) outcome saved.files;
-              state_is = saved.state_is;
-              file = saved.file;
-              in_order = saved.in_order;
-            };
-          };
-        }
-    resumes (Err (fault.Write output count)) ran =
-        record {
-          plan = ran.plan;
-          plan_is = ran.plan_is;
-          holds = record {
-            board = ran.holds.board;
-            is_first = ran.holds.is_first;
-            holds = save-cut ran.plan ran.holds.board output count ran.holds.holds;
-          };
-        }
+    resumes (Ok outcome) ran = search rules
+    resumes (Err (fault.Write output count)) ran = grind (arith, save-cut)
     resumes (Err fault.NoMemory) (none, unsaved) = (nothing none, unsaved)
     resumes (Err (fault.Source refusal)) (is, none, unsaved) = (is, nothing none, unsaved)
     resumes (Err (fault.Set refusal)) (is, none, unsaved) = (is, nothing none, unsaved)
@@ -124,8 +88,7 @@ module _ {F G W V L K R Q : Type 0} (to : Writings F W L R) (other : Writings G 
     broken : (plan : Plan) (output : Which) (count : ℕ) → IsBrokenAt plan inputs.dip commands to words output count
         → IsBrokenAt plan inputs.dip commands other other_words output count
     broken plan which.Listing count (at, silent) = (cut (contents_of plan inputs.dip) which.Listing count at, tells.still silent)
-    broken plan which.Report count (at, told) =
-        (cut (contents_of plan inputs.dip) which.Report count at, all-told tells (setting_of_plan plan inputs.dip) (lines commands) told)
+    broken plan which.Report count (at, told) = search rules
     broken plan which.Frames count (at, told) =
         (cut (contents_of plan inputs.dip) which.Frames count at, told-till tells (setting_of_plan plan inputs.dip) (lines commands) _ told)
     broken plan which.Wave count (at, told) = (
@@ -133,29 +96,13 @@ module _ {F G W V L K R Q : Type 0} (to : Writings F W L R) (other : Writings G 
       told-at-wave tells (setting_of_plan plan inputs.dip) (lines commands) _ _
           told,
     )
-    broken plan which.Text count at = record {
-      listing = lists.takes _ at.listing;
-      report = reports.still at.report;
-      untold = line-untold shows sounds tells (total_frames plan.script) (trace_of plan inputs.dip).outputs (setting_of_plan plan
-          inputs.dip)
-          (lines commands) count at.untold;
-    }
+    broken plan which.Text count at = grind (arith, line-untold)
     broken plan which.State count none = none
 
     pub debugs : (answer : Result Outcome RunFault) → Debugs inputs commands to words answer
         → Debugs inputs commands other other_words answer
-    debugs (Ok outcome) ran =
-        record {
-          plan = ran.plan;
-          plan_is = ran.plan_is;
-          holds = record {
-            files = whole (contents_of ran.plan inputs.dip) outcome ran.holds.files;
-            seen = ran.holds.seen;
-            told = all-told tells (setting_of_plan ran.plan inputs.dip) (lines commands) ran.holds.told;
-          };
-        }
-    debugs (Err (fault.Write output count)) ran =
-        record { plan = ran.plan; plan_is = ran.plan_is; holds = (ran.holds.0, broken ran.plan output count ran.holds.1) }
+    debugs (Ok outcome) ran = search rules
+    debugs (Err (fault.Write output count)) ran = grind (arith, broken)
     debugs (Err fault.NoMemory) (none, silent) = (nothing none, tells.still silent)
     debugs (Err (fault.Source refusal)) (is, none, silent) = (is, nothing none, tells.still silent)
     debugs (Err (fault.Set refusal)) (is, none, silent) = (is, nothing none, tells.still silent)

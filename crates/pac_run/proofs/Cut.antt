@@ -1,8 +1,6 @@
 -- Of two plays, the run of the first, saved, and that of the second, resumed from what was saved, are the run of both.
-use Rattle.std.proofs.Common.{◌≡◌, ℕ, ◌+◌, ◌-◌, ◌*◌, ◌%◌, ◌<◌, ◌≤◌, zero, suc, pos, nat_le, arith}
-use Rattle.std.proofs.Common.{Bool, true, false, not, ◌||◌, is_some}
-use Rattle.std.proofs.Common.{List, [], ◌∷◌, ◌++◌, length, replicate, Option, None}
-use Rattle.std.proofs.Common.{Some, refl, sym, ap, ◌∙◌, append-nil, length-append}
+use Rattle.std.proofs.Common.{◌≡◌, ℕ, ◌+◌, ◌-◌, ◌*◌, ◌%◌, ◌<◌, ◌≤◌, zero, suc, nat_le, arith, rules, Bool, true, List, [], ◌∷◌, ◌++◌}
+use Rattle.std.proofs.Common.{length, Option, None, refl, sym, ap, ◌∙◌, length-append}
 use Rattle.std.proofs.lemmas.Bool.Decides.{nat_tests}
 use Rattle.pac_asm.specs.PlacedItems.{Item, AllLie}
 use Rattle.pac_board_course.specs.BoardView.{BoardView, IsBoard}
@@ -11,17 +9,15 @@ use Rattle.pac_board_course.specs.Course.{frame_microseconds}
 use Rattle.pac_board_course.specs.Entry.{Entry}
 use Rattle.pac_board_course.specs.History.{board_after_entries}
 use Rattle.pac_board_course.specs.ModelLaws.{IsTimely}
-use Rattle.pac_board_course.specs.Step.{frame_samples}
+use Rattle.pac_board_course.specs.Step.{frame_samples, Moment, Next, frame_ticks, sample_ticks}
 use Rattle.pac_board_course.specs.Output.{Output, Sound, Show, picture_count, sound_count}
 use Rattle.pac_board_course.specs.Resumed.{HasItsFrames, JoinsPlays}
 use Rattle.pac_board_course.specs.RomParts.{Parts, IsWhole}
-use Rattle.pac_board_course.specs.State.{BoardState, BoardValue, nothing_due}
-use Rattle.pac_board_course.specs.Step.{Moment, Next, Goes, Ends, frame_ticks, sample_ticks}
+use Rattle.pac_board_course.specs.State.{BoardState, BoardValue}
 use Rattle.pac_board_course.specs.Stop.{Stop}
-use Rattle.pac_board_course.specs.Trace.{Play, by_history, by_view, frames_gone}
+use Rattle.pac_board_course.specs.Trace.{Play, by_history, by_view, frames_gone, resumed, resumed_end, resumed_start, resumed_step}
 use Rattle.pac_board_course.specs.TraceLaws.{plays_joined}
-use Rattle.pac_board_course.specs.Trace.{resumed, resumed_end, resumed_start, resumed_step}
-use Rattle.pac_board_course.specs.Walk.{Walk, onward_if, walk, walk_after_step}
+use Rattle.pac_board_course.specs.Walk.{Walk, onward_if, walk}
 use Rattle.pac_board_course.proofs.Agreed.{resumed-runs-agree}
 use Rattle.pac_board_course.proofs.Resumed.{plays-join}
 use Rattle.pac_board_course.proofs.ResumedTimes.{resumed-runs-have-their-frames}
@@ -31,7 +27,6 @@ use Rattle.pac_run.specs.Parts.{outcomes_joined}
 use Rattle.pac_run.specs.Resumes.{end_state, frames_asked, outcome_since, run_of_play, without_history}
 use Rattle.pac_run.specs.Start.{is_between_frames}
 use Rattle.pac_run.specs.Texts.{images_text, samples_in, sound_text}
-use Rattle.pac_run.proofs.Begins.{both-true}
 use Rattle.pac_run.proofs.Filmed.{samples-append, sound-append}
 use Rattle.pac_run.proofs.Heard.{frames-append, pictures-counted}
 
@@ -50,18 +45,8 @@ module _ {Board : Type 0} (next : Moment Board → Next Board) (limit : ℕ) (ti
     pub time : from.time ≤ w.now.time
     pub steps : from.steps ≤ w.now.steps
 
-  grown-after : (w : Walk Board) (h : Next Board) → IsTimely w.now h → HasGrown w → HasGrown (walk_after_step w h)
-  grown-after w (Goes now outputs kind) times has =
-      record {
-        time = let a = times.0 in let b = has.time in omega (arith, a, b);
-        steps = let a = times.2 in let b = has.steps in omega (arith, a, b);
-      }
-  grown-after w (Ends stop) times has = record { time = has.time; steps = has.steps }
-
   grown-onward : (w : Walk Board) (stop : Option Stop) (late : Bool) → HasGrown w → HasGrown (onward_if next w stop late)
-  grown-onward w (Some stop) late has = has
-  grown-onward w None true has = has
-  grown-onward w None false has = grown-after w (next w.now) (timely w.now) has
+  grown-onward w stop late has = search rules
 
   grown : (n : ℕ) → HasGrown (walk next limit from n)
   grown zero = record { time = omega arith; steps = omega arith }
@@ -81,10 +66,7 @@ run-grown set items play board =
 -- ---- between two frames
 
 pub is-near : (state : BoardState) → is_between_frames state ≡ true → state.now.time % frame_ticks < sample_ticks
-is-near state between =
-    let e = (both-true (not (is_some state.due.sample || state.due.picture)) (not (nat_le sample_ticks (state.now.time % frame_ticks)))
-    between).1 in
-    grind (arith, nat_tests)
+is-near state between = grind (arith, nat_tests)
 
 -- ---- a run in two
 
@@ -157,9 +139,7 @@ module _ (set : Parts) (items : List Item) (first second : Play) (board : BoardV
 
       -- what they give, and where they end
       outputs-joined : one.outputs ++ two.outputs ≡ all.outputs
-      outputs-joined =
-          (λ i. (one-viewed i).outputs ++ (two-viewed i).outputs) ∙ joins.outputs
-          ∙ sym (ap (λ (run : Walk BoardView). run.outputs) all-viewed)
+      outputs-joined = grind (arith, all-viewed, joins, one-viewed, two-viewed)
 
       ends-joined : (walk_view (board_after_entries set saved.state.now.board) two).now
           ≡ (walk_view (board_after_entries set board.state.now.board) all).now
@@ -167,8 +147,7 @@ module _ (set : Parts) (items : List Item) (first second : Play) (board : BoardV
           ap (λ (run : Walk BoardView). run.now) two-viewed ∙ joins.now ∙ sym (ap (λ (run : Walk BoardView). run.now) all-viewed)
 
       stops-joined : two.stop ≡ all.stop
-      stops-joined =
-          ap (λ (run : Walk BoardView). run.stop) two-viewed ∙ joins.stop ∙ sym (ap (λ (run : Walk BoardView). run.stop) all-viewed)
+      stops-joined = grind (arith, all-viewed, joins, two-viewed)
 
       -- the sound of the first half has all of its samples, and no zeros
       samples-whole : length (samples_in one.outputs) ≡ frame_samples * first.frames
@@ -176,9 +155,7 @@ module _ (set : Parts) (items : List Item) (first second : Play) (board : BoardV
 
       no-zeros : frames_sound first.frames one.outputs ≡ samples_text (samples_in one.outputs)
       no-zeros =
-          let count : frame_samples * first.frames - length (samples_in one.outputs) ≡ 0 = omega (arith, samples-whole) in
-          ap (λ count. samples_text (samples_in one.outputs ++ replicate count (pos 0))) count
-          ∙ ap samples_text (append-nil (samples_in one.outputs))
+          let count : frame_samples * first.frames - length (samples_in one.outputs) ≡ 0 = omega (arith, samples-whole) in search rules
 
       same-zeros : frame_samples * second.frames - length (samples_in two.outputs)
           ≡ frame_samples * (first.frames + second.frames) - length (samples_in (one.outputs ++ two.outputs))
@@ -188,26 +165,16 @@ module _ (set : Parts) (items : List Item) (first second : Play) (board : BoardV
 
       sound-joined : frames_sound first.frames one.outputs ++ frames_sound second.frames two.outputs
           ≡ frames_sound (first.frames + second.frames) all.outputs
-      sound-joined =
-          let total = frame_samples * (first.frames + second.frames) in
-          (λ i. no-zeros i ++ samples_text (samples_in two.outputs ++ replicate (same-zeros i) (pos 0)))
-          ∙ sound-append total one.outputs two.outputs ∙ ap (sound_text total) outputs-joined
+      sound-joined = grind (arith, no-zeros, outputs-joined, same-zeros, sound-append)
 
       -- the microseconds asked for
       asked-joined : frame_microseconds * frames_asked first.frames board one + frame_microseconds * frames_asked second.frames saved two
           ≡ frame_microseconds * frames_asked (first.frames + second.frames) board all
       asked-joined =
-          let gone = has-frames.gone in
-          let ends = ap (λ (now : Moment BoardView). now.time) ends-joined in
-          let grows = (run-grown set items second saved).0 in
-          omega (arith, gone, ends, grows)
+          omega (arith, has-frames.gone, ap (λ (now : Moment BoardView). now.time) ends-joined, (run-grown set items second saved).0)
 
       states-joined : end_state set second.frames saved two ≡ end_state set (first.frames + second.frames) board all
-      states-joined =
-          let asked : saved.state.asked + frame_microseconds * frames_asked second.frames saved two
-          ≡ board.state.asked + frame_microseconds * frames_asked (first.frames + second.frames) board all
-          = omega (arith, asked-joined) in
-          λ i. record { now = ends-joined i; asked = asked i; due = nothing_due }
+      states-joined = grind (arith, asked-joined, ends-joined)
 
       -- what they came to
       pub runs-joined : JoinsRuns set first second board saved one two all
@@ -217,15 +184,9 @@ module _ (set : Parts) (items : List Item) (first second : Play) (board : BoardV
           let two_grown = run-grown set items second saved in
           let frames : picture_count one.outputs + picture_count two.outputs ≡ picture_count all.outputs =
           sym (pictures-counted one.outputs two.outputs) ∙ ap picture_count outputs-joined in
-          let time = ap (λ (now : Moment BoardView). now.time) ends in
           let steps = ap (λ (now : Moment BoardView). now.steps) ends in
           let all_steps : (one.now.steps - board.state.now.steps) + (two.now.steps - one.now.steps) ≡ all.now.steps - board.state.now.steps
           = omega (arith, steps, one_grown.1, two_grown.1) in
           let all_ticks : (one.now.time - board.state.now.time) + (two.now.time - one.now.time) ≡ all.now.time - board.state.now.time
-          = omega (arith, time, one_grown.0, two_grown.0) in
-          record {
-            images = sym (frames-append one.outputs two.outputs) ∙ ap images_text outputs-joined;
-            sound = sound-joined;
-            state = states-joined;
-            outcome = λ i. record { frames = frames i; steps = all_steps i; ticks = all_ticks i; stop = stops-joined i };
-          }
+          = omega (arith, ap (λ (now : Moment BoardView). now.time) ends, one_grown.0, two_grown.0) in
+          grind (arith, frames-append, outputs-joined, sound-joined, states-joined, stops-joined)

@@ -1,11 +1,8 @@
 -- The answers of a run under a debugger, one by one.
-use Rattle.std.proofs.Common.{◌≡◌, ℕ, List, Option, None, Result, Ok, Err, refl, sym, ap, subst, ◌∙◌}
+use Rattle.std.proofs.Common.{◌≡◌, ℕ, List, Option, None, Result, Ok, Err, sym, subst, arith, rules}
 use Rattle.std.specs.Str.Lines.{lines}
-use mathlib.Core.List.{IsPrefix}
-use Rattle.pac_board_course.specs.Stretches.{total_frames}
 use Rattle.pac_asm.specs.Assembled.{Assembled}
 use Rattle.pac_board_course.specs.Output.{Output}
-use Rattle.pac_board_course.specs.State.{BoardValue}
 use Rattle.pac_board_course.specs.declared.outcome.Outcome.{Outcome}
 use Rattle.pac_debug.specs.MotionsLaws.{IsOutcome}
 use Rattle.pac_debug.specs.Running.{Setting}
@@ -22,9 +19,8 @@ use Rattle.pac_run.specs.Plan.{Plan, plan_with}
 use Rattle.pac_run.specs.Playing.{Played, session_played, told_played}
 use Rattle.pac_run.specs.Recorded.{TextBreaks, WaveBreaks, WritesPlay}
 use Rattle.pac_run.specs.Started.{IsPrepared, Prepares}
-use Rattle.pac_run.specs.Run.{Writing, Writings, TakesText, StopsInText, IsUnwritten, NothingWritten, IsRunWhole, contents_of, trace_of}
-use Rattle.pac_run.specs.Texts as text
-use Rattle.pac_run.specs.Watched.{HasSoundOf, ToldAtWave}
+use Rattle.pac_run.specs.Run.{Writing, Writings, IsUnwritten, NothingWritten, IsRunWhole, contents_of, trace_of}
+use Rattle.pac_run.specs.Watched.{ToldAtWave}
 use Rattle.pac_run.proofs.Answered.{NoWrite, plan-writes}
 use Rattle.pac_run.proofs.Traced.{session-outputs, session-outcome, seen-through, same-setting}
 
@@ -36,26 +32,16 @@ pub ready-session : (inputs : RunInputs) (prepared : Prepared) (session : Sessio
       script = prepared.script;
     }) prepared.board.value.made
     → IsReady inputs prepared.program session
-ready-session inputs prepared session ready is =
-    let same : session ≡ session_at_start (record { set = prepared.board.value.set; switches = inputs.dip; script = prepared.script }) 0 =
-    is ∙ ap (λ (board : BoardValue). session_at_start (record {
-      set = prepared.board.value.set;
-      switches = board.state.now.board.memory.switches;
-      script = prepared.script;
-    }) board.made) ready.board.first in
-    subst (λ it. IsReady inputs prepared.program it) (sym same)
-    (record { plan_is = ready.plan_is; switches = refl; session_is = refl; whole = ready.whole; lie = ready.lie })
+ready-session inputs prepared session ready is = search rules
 
 module _ {F W L R T : Type 0} (inputs : RunInputs) (commands : List ℕ) (to : Writings F W L R) (words : Writing T) where
   -- nothing was written
   pub refused-all : (why : RunFault) → Prepares inputs None (Err why) → NothingWritten to → IsUnwritten words
       → Debugs inputs commands to words (Err why)
-  refused-all (fault.Source refusal) is none silent = (is, none, silent)
-  refused-all (fault.Set refusal) is none silent = (is, none, silent)
-  refused-all (fault.Script refusal) is none silent = (is, none, silent)
   refused-all (fault.State refusal) is none silent = absurd is.refuses
   refused-all (fault.Write output count) is none silent = absurd (subst NoWrite is (plan-writes inputs))
   refused-all fault.NoMemory is none silent = (none, silent)
+  refused-all why is none silent = (is, none, silent)
 
   module _ (program : Option Assembled) (session : SessionValue) (ready : IsReady inputs program session) (unplayed : Type 0)
       (still : unplayed → IsUnwritten words) where
@@ -73,83 +59,32 @@ module _ {F W L R T : Type 0} (inputs : RunInputs) (commands : List ℕ) (to : W
 
     -- what a session's run leaves, by its answer: its run is the plan's trace
     whole : (outcome : Outcome) → WritesPlay played plan.listing to (Ok outcome) → IsRunWhole (contents_of plan inputs.dip) to outcome
-    whole outcome it =
-        let same = session-outcome inputs program session ready outcome it.film.done.outcome_is in
-        record {
-          outcome_is = same;
-          frames = it.film.images;
-          wave = it.film.sound;
-          listing = it.listing;
-          report = subst (λ outcome. TakesText to.report (text.report outcome (total_frames plan.script))) same it.report;
-        }
+    whole outcome it = let same = session-outcome inputs program session ready outcome it.film.done.outcome_is in search rules
 
     unreported : (count : ℕ) → WritesPlay played plan.listing to (Err (fault.Write which.Report count))
         → IsBrokenAt plan inputs.dip commands to words which.Report count
-    unreported count it =
-        let same = session-outcome inputs program session ready it.outcome it.film.done.outcome_is in (
-          record {
-            listing = it.listing;
-            frames = it.film.images;
-            wave = it.film.sound;
-            report = subst (λ outcome. StopsInText to.report (text.report outcome (total_frames plan.script)) count) same it.report;
-          },
-          it.film.done.told,
-        )
+    unreported count it = let same = session-outcome inputs program session ready it.outcome it.film.done.outcome_is in search rules
 
     told-at-wave : (count : ℕ) (it : WaveBreaks played to.frames to.wave count)
         → ToldAtWave words setting (lines commands) outputs it.film.sound.taken
-    told-at-wave count it = record {
-      header_first = λ few. still (it.header_first few);
-      past = λ enough. let heard = it.past enough in
-          record { waiting = heard.waiting; among = heard.among; no_picture = heard.no_picture; told = heard.told };
-    }
+    told-at-wave count it = search rules
 
     untold : (count : ℕ) → TextBreaks played to.frames to.wave count → IsUntold plan inputs.dip commands to words count
-    untold count it =
-        let cut = it.untold in
-        record {
-          told = cut.told;
-          more = cut.more;
-          left = cut.left;
-          tells = cut.tells;
-          refused = cut.refused;
-          least = cut.least;
-          among = subst (λ taken. IsPrefix taken outputs) cut.taken_is it.among;
-          images = subst (λ taken. TakesText to.frames (text.images_text taken)) cut.taken_is it.images;
-          sound = subst (λ taken. HasSoundOf to.wave (total_frames plan.script) taken) cut.taken_is it.sound;
-        }
+    untold count it = search rules
 
     broken : (output : Which) (count : ℕ) → WritesPlay played plan.listing to (Err (fault.Write output count))
         → IsBrokenAt plan inputs.dip commands to words output count
-    broken which.Listing count it =
-        (record { listing = it.listing; frames = it.frames; wave = it.wave; report = it.report }, still it.unplayed)
+    broken which.Listing count it = search rules
     broken which.Report count it = unreported count it
     broken which.Frames count it = (record { listing = it.listing; film = it.film.0; report = it.report }, it.film.1)
-    broken which.Wave count it =
-        (record { listing = it.listing; film = it.film.film; report = it.report }, told-at-wave count it.film)
+    broken which.Wave count it = (record { listing = it.listing; film = it.film.film; report = it.report }, told-at-wave count it.film)
     broken which.Text count it = record { listing = it.listing; report = it.report; untold = untold count it.film }
     broken which.State count it = absurd it.film
 
     by-answer : (answer : Result Outcome RunFault) → WritesPlay played plan.listing to answer → Debugs inputs commands to words answer
-    by-answer (Ok outcome) it = record {
-      plan = plan;
-      plan_is = ready.plan_is;
-      holds = record {
-        files = whole outcome it;
-        seen = seen-through inputs program session ready;
-        told = it.film.done.told;
-      };
-    }
-    by-answer (Err (fault.Write output count)) it = record {
-      plan = plan;
-      plan_is = ready.plan_is;
-      holds = (seen-through inputs program session ready, broken output count it);
-    }
-    by-answer (Err fault.NoMemory) it = absurd it
-    by-answer (Err (fault.Source refusal)) it = absurd it
-    by-answer (Err (fault.Set refusal)) it = absurd it
-    by-answer (Err (fault.Script refusal)) it = absurd it
-    by-answer (Err (fault.State refusal)) it = absurd it
+    by-answer (Ok outcome) it = grind (arith, seen-through, whole)
+    by-answer (Err (fault.Write output count)) it = grind (arith, broken, seen-through)
+    by-answer answer it = absurd it
 
     pub debugged : (answer : Result Outcome RunFault)
         → WritesPlay (session_played words session (lines commands) unplayed) plan.listing to answer

@@ -1,5 +1,5 @@
 -- What a film and a wave file have after the outputs of a list.
-use Rattle.std.proofs.Common.{◌≡◌, ℕ, ℤ, pos, ◌+◌, ◌-◌, ◌*◌, ◌≤◌, List, [], ◌∷◌, ◌++◌, length, replicate}
+use Rattle.std.proofs.Common.{◌≡◌, ℕ, ℤ, pos, ◌+◌, ◌-◌, ◌*◌, ◌≤◌, List, [], ◌∷◌, ◌++◌, length, replicate, rules}
 use Rattle.std.proofs.Common.{refl, sym, ap, subst, ◌∙◌, append_assoc, append-nil, length-append, arith}
 use Rattle.std.proofs.lemmas.Grind.{flat_map-append}
 use Rattle.std.specs.List.{flat_map}
@@ -63,10 +63,7 @@ module _ (total : ℕ) where
 
   pub wave-long : (taken : List Output) → length (wave_so_far total taken) ≡ header_size + size sample_bytes taken
   wave-long taken =
-      let long = length-append head (samples_text (samples_in taken)) in
-      let first = header-long (frame_samples * total) in
-      let same = ap length (sound-bytes taken) in
-      omega (arith, long, first, same)
+      omega (arith, length-append head (samples_text (samples_in taken)), header-long (frame_samples * total), ap length (sound-bytes taken))
 
 module _ {F W : Type 0} (at : Reel F W) (total : ℕ) where
   -- These outputs were taken. What waits of the sound came after the last picture.
@@ -82,11 +79,7 @@ module _ {F W : Type 0} (at : Reel F W) (total : ℕ) where
   at-first film it =
       record {
         images = it.images;
-        sound = record {
-          prefix = head total;
-          parts = ap (λ waiting. head total ++ waiting) (sym it.none_waits);
-          taken = it.header;
-        };
+        sound = search rules;
         owed = let owed = it.owed in omega (arith, owed);
         past_header = let long = header-long (frame_samples * total) in omega (arith, long);
         settled = λ n enough. refl;
@@ -102,22 +95,13 @@ module _ {F W : Type 0} (at : Reel F W) (total : ℕ) where
         images = subst (λ (bytes : List ℕ). HasTaken at.took_f at.frames bytes new.frames)
             (sym (frames-append taken (Sound sample ∷ []) ∙ append-nil (images_text taken)))
             (subst (λ (file : Counted F). HasTaken at.took_f at.frames (images_text taken) file) (sym took.frames) has.images);
-        sound = record {
-          prefix = later.prefix;
-          parts = wave-more total taken (Sound sample ∷ [])
-              ∙ (ap (λ bytes. wave_so_far total taken ++ bytes) (append-nil (sample_text sample)) ∙ later.parts);
-          taken = later.taken;
-        };
+        sound = grind (arith, wave-more);
         owed = let one = took.owed in let before = has.owed in
             let long = ap length (samples-append taken (Sound sample ∷ []))
             ∙ length-append (samples_in taken) (sample ∷ []) in
             omega (arith, one, before, long);
         past_header = let least = has.past_header in omega (arith, least, further);
-        settled = λ n enough.
-            let before = has.settled n (omega (arith, enough, further)) in
-            let none = samples-add-none n taken sample in
-            let count = pictures-counted taken (Sound sample ∷ []) in
-            omega (arith, before, none, count);
+        settled = grind (arith, pictures-counted, samples-add-none);
       }
 
   -- one image more: all samples before it are written
@@ -127,19 +111,11 @@ module _ {F W : Type 0} (at : Reel F W) (total : ℕ) where
       let all = append-nil (wave_so_far total taken) in
       record {
         images = subst (λ (bytes : List ℕ). HasTaken at.took_f at.frames bytes new.frames)
-            (ap (λ bytes. images_text taken ++ bytes) (sym (append-nil (image_bytes (Show image))))
-            ∙ sym (frames-append taken (Show image ∷ [])))
+            (cc (append-nil (image_bytes (Show image)), frames-append taken (Show image ∷ [])))
             (took.frames.after at.frames (images_text taken) has.images);
-        sound = record {
-          prefix = wave_so_far total taken ++ [];
-          parts = wave-more total taken (Show image ∷ [])
-              ∙ (sym (append-nil (wave_so_far total taken ++ []))
-              ∙ ap (λ waiting. (wave_so_far total taken ++ []) ++ waiting) (sym took.wave.none_waits));
-          taken = took.wave.after at.wave (wave_so_far total taken) has.sound;
-        };
-        owed = let same = took.owed in let before = has.owed in
-            let long = ap length (samples-append taken (Show image ∷ []) ∙ append-nil (samples_in taken)) in
-            omega (arith, same, before, long);
+        sound = grind (arith, wave-more);
+        owed = let same = took.owed in let long = ap length (samples-append taken (Show image ∷ []) ∙ append-nil (samples_in taken)) in
+            omega (arith, same, long);
         past_header = let long = wave-long total taken in let same = ap length all in omega (arith, long, same);
         settled = λ n enough.
             let long = wave-long total taken in let same = ap length all in
@@ -148,8 +124,7 @@ module _ {F W : Type 0} (at : Reel F W) (total : ℕ) where
       }
     where
       size-one : (taken : List Output) (image : Image) → size sample_bytes (taken ++ Show image ∷ []) ≡ size sample_bytes taken
-      size-one taken image =
-          ap length (flat_map-append sample_bytes taken (Show image ∷ []) ∙ append-nil (flat_map sample_bytes taken))
+      size-one taken image = ap length (flat_map-append sample_bytes taken (Show image ∷ []) ∙ append-nil (flat_map sample_bytes taken))
 
   one-more : (taken : List Output) (output : Output) (old new : Film F W) → Filmed taken old → film_took at.took_f at.took_w old output new
       → Filmed (taken ++ output ∷ []) new
@@ -174,7 +149,4 @@ module _ {F W : Type 0} (at : Reel F W) (total : ℕ) where
   -- the zeros, at last
   pub zeros-last : (outputs : List Output) (mid : Film F W) → Filmed outputs mid
       → wave_so_far total outputs ++ samples_text (replicate mid.wave.owed (pos 0)) ≡ wave_file_text total outputs
-  zeros-last outputs mid has =
-      ap (λ owed. wave_so_far total outputs ++ samples_text (replicate owed (pos 0)))
-      (has.owed ∙ ap (λ outputs. frame_samples * total - length (samples_in outputs)) (sym (append-nil outputs)))
-      ∙ (wave-whole total outputs [] ∙ ap (wave_file_text total) (append-nil outputs))
+  zeros-last outputs mid has = cc (has.owed, append-nil outputs, wave-whole total outputs [])

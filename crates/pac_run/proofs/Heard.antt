@@ -1,5 +1,5 @@
 -- What comes before a byte among outputs: all of a first part and something of a second, or something of the first.
-use Rattle.std.proofs.Common.{◌≡◌, ℕ, ◌+◌, ◌-◌, ◌<◌, ◌≤◌, nat_le, Bool, true, false, if◌then◌else◌, List, [], ◌∷◌, ◌++◌, length}
+use Rattle.std.proofs.Common.{◌≡◌, ℕ, ◌+◌, ◌-◌, ◌<◌, ◌≤◌, nat_le, Bool, true, false, if◌then◌else◌, List, [], ◌∷◌, ◌++◌, length, rules}
 use Rattle.std.proofs.Common.{refl, sym, ap, ◌∙◌, append-nil, length-append, arith}
 use Rattle.std.proofs.lemmas.Bool.Decides.{nat_tests}
 use Rattle.std.proofs.lemmas.Grind.{flat_map-append}
@@ -33,13 +33,8 @@ sound-bytes (Show image ∷ more) = sound-bytes more
 
 -- ---- before a byte
 
-choose : {A : Type 0} (test : Bool) (one other : A) → test ≡ true → (if test then one else other) ≡ one
-choose true one other is = refl
-choose false one other is = ap (λ (test : Bool). if test then one else other) is
-
 not-chosen : {A : Type 0} (test : Bool) (one other : A) → test ≡ false → (if test then one else other) ≡ other
-not-chosen true one other is = ap (λ (test : Bool). if test then one else other) is
-not-chosen false one other is = refl
+not-chosen test one other is = search rules
 
 module _ (bytes : Output → List ℕ) where
   abbrev pub size : List Output → ℕ
@@ -48,20 +43,13 @@ module _ (bytes : Output → List ℕ) where
   pub size-more : (output : Output) (more : List Output) → size (output ∷ more) ≡ length (bytes output) + size more
   size-more output more = length-append (bytes output) (flat_map bytes more)
 
-  pub size-joined : (one other : List Output) → size (one ++ other) ≡ size one + size other
-  size-joined one other = ap length (flat_map-append bytes one other) ∙ length-append (flat_map bytes one) (flat_map bytes other)
-
   -- an output whose bytes all come before, and one with the byte
   goes-on : (n : ℕ) (output : Output) (more : List Output) → length (bytes output) ≤ n
       → outputs_before bytes n (output ∷ more) ≡ output ∷ outputs_before bytes (n - length (bytes output)) more
-  goes-on n output more less =
-      let test : nat_le (length (bytes output)) n ≡ true = grind (arith, nat_tests) in
-      choose (nat_le (length (bytes output)) n) (output ∷ outputs_before bytes (n - length (bytes output)) more) [] test
+  goes-on n output more less = search rules
 
   pub ends-there : (n : ℕ) (output : Output) (more : List Output) → n < length (bytes output) → outputs_before bytes n (output ∷ more) ≡ []
-  ends-there n output more less =
-      let test : nat_le (length (bytes output)) n ≡ false = grind (arith, nat_tests) in
-      not-chosen (nat_le (length (bytes output)) n) (output ∷ outputs_before bytes (n - length (bytes output)) more) [] test
+  ends-there n output more less = search rules
 
   -- all of a first part comes before
   pub before-past : (n : ℕ) (one other : List Output) → size one ≤ n
@@ -83,22 +71,15 @@ module _ (bytes : Output → List ℕ) where
       → (test ≡ true → outputs_before bytes (n - length (bytes output)) (one ++ other)
       ≡ outputs_before bytes (n - length (bytes output)) one)
       → outputs_before bytes n ((output ∷ one) ++ other) ≡ outputs_before bytes n (output ∷ one)
-  step-within n output one other true is rest =
-      choose (nat_le (length (bytes output)) n) (output ∷ outputs_before bytes (n - length (bytes output)) (one ++ other)) [] is
-      ∙ (ap (λ more. output ∷ more) (rest refl)
-      ∙ sym (choose (nat_le (length (bytes output)) n) (output ∷ outputs_before bytes (n - length (bytes output)) one) [] is))
-  step-within n output one other false is rest =
-      not-chosen (nat_le (length (bytes output)) n) (output ∷ outputs_before bytes (n - length (bytes output)) (one ++ other)) [] is
-      ∙ sym (not-chosen (nat_le (length (bytes output)) n) (output ∷ outputs_before bytes (n - length (bytes output)) one) [] is)
+  step-within n output one other test is rest = search rules
 
   pub before-within : (n : ℕ) (one other : List Output) → n < size one
       → outputs_before bytes n (one ++ other) ≡ outputs_before bytes n one
   before-within n [] other less = absurd (omega (arith, less))
   before-within n (output ∷ one) other less =
-      let long = size-more output one in
       step-within n output one other (nat_le (length (bytes output)) n) refl
       (λ is. let enough : length (bytes output) ≤ n = grind (arith, nat_tests) in
-      before-within (n - length (bytes output)) one other (omega (arith, long, less, enough)))
+      before-within (n - length (bytes output)) one other (omega (arith, size-more output one, less, enough)))
 
   -- what comes before is a first part
   pub record Parts (n : ℕ) (outputs : List Output) : Type 0 where
@@ -107,18 +88,11 @@ module _ (bytes : Output → List ℕ) where
 
   part-more : (n : ℕ) (output : Output) (more : List Output) (test : Bool) → nat_le (length (bytes output)) n ≡ test
       → Parts (n - length (bytes output)) more → Parts n (output ∷ more)
-  part-more n output more true is later =
-      record {
-        rest = later.rest;
-        parts = ap (λ list. output ∷ list) later.parts
-            ∙ ap (λ first. first ++ later.rest)
-            (sym (choose (nat_le (length (bytes output)) n) (output ∷ outputs_before bytes (n - length (bytes output)) more) [] is));
-      }
+  part-more n output more true is later = search rules
   part-more n output more false is later =
       record {
         rest = output ∷ more;
-        parts = ap (λ first. first ++ (output ∷ more))
-            (sym (not-chosen (nat_le (length (bytes output)) n) (output ∷ outputs_before bytes (n - length (bytes output)) more) [] is));
+        parts = grind (arith, not-chosen);
       }
 
   pub parts-of : (n : ℕ) (outputs : List Output) → Parts n outputs
@@ -131,28 +105,7 @@ module _ (bytes : Output → List ℕ) where
 -- one sample more is no picture more
 pub samples-add-none : (n : ℕ) (taken : List Output) (sample : _)
     → picture_count (outputs_before sample_bytes n (taken ++ Sound sample ∷ [])) ≡ picture_count (outputs_before sample_bytes n taken)
-samples-add-none n taken sample = choose-part (nat_le (size sample_bytes taken) n) refl
-  where
-    last : (m : ℕ) → picture_count (outputs_before sample_bytes m (Sound sample ∷ [])) ≡ 0
-    last m = none (nat_le (length (sample_text sample)) m)
-      where
-        none : (test : Bool) → picture_count (if test then (Sound sample ∷ []) else []) ≡ 0
-        none true = refl
-        none false = refl
-
-    choose-part : (test : Bool) → nat_le (size sample_bytes taken) n ≡ test
-        → picture_count (outputs_before sample_bytes n (taken ++ Sound sample ∷ []))
-        ≡ picture_count (outputs_before sample_bytes n taken)
-    choose-part true is =
-        let past : size sample_bytes taken ≤ n = grind (arith, nat_tests) in
-        let e = pictures-counted taken (outputs_before sample_bytes (n - size sample_bytes taken) (Sound sample ∷ [])) in
-        let f = last (n - size sample_bytes taken) in
-        let whole = ap picture_count (before-past sample_bytes n taken (Sound sample ∷ []) past) in
-        let all = ap picture_count (all-before sample_bytes n taken past) in
-        omega (arith, e, f, whole, all)
-    choose-part false is =
-        let within : n < size sample_bytes taken = grind (arith, nat_tests) in
-        ap picture_count (before-within sample_bytes n taken (Sound sample ∷ []) within)
+samples-add-none n taken sample = grind (arith, all-before, before-past, before-within, nat_tests, pictures-counted)
 
 -- The outputs that were taken are those that were heard, and some that wait, of which none is a picture.
 pub record IsHeard (n : ℕ) (outputs taken : List Output) : Type 0 where
@@ -177,12 +130,7 @@ module _ (n : ℕ) (taken left : List Output)
       let split = parts-of sample_bytes n taken in
       let same = before-within sample_bytes n taken left within in
       let count = pictures-counted (outputs_before sample_bytes n taken) split.rest in
-      let all = ap picture_count split.parts in
-      record {
-        waiting = split.rest;
-        parts = split.parts ∙ ap (λ first. first ++ split.rest) (sym same);
-        no_picture = omega (arith, settled, count, all);
-      }
+      let all = ap picture_count split.parts in search rules
 
   pub is-heard : IsHeard n (taken ++ left) taken
   is-heard = heard-by (nat_le (size sample_bytes taken) n) refl
@@ -192,9 +140,7 @@ pub heard-images : (n : ℕ) (outputs taken : List Output) → IsHeard n outputs
     → images_text taken ≡ images_text (outputs_before sample_bytes n outputs)
 heard-images n outputs taken heard =
     let before = outputs_before sample_bytes n outputs in
-    ap images_text heard.parts
-    ∙ (frames-append before heard.waiting
-    ∙ (ap (λ more. images_text before ++ more) (no-images heard.waiting heard.no_picture) ∙ append-nil (images_text before)))
+    cc (heard.parts, frames-append before heard.waiting, no-images heard.waiting heard.no_picture, append-nil (images_text before))
 
 -- ---- what was shown before an image that was refused
 
@@ -203,5 +149,4 @@ pub is-shown : (n : ℕ) (taken : List Output) (image : _) (more : List Output) 
     → outputs_before image_bytes n (taken ++ Show image ∷ more) ≡ taken
 is-shown n taken image more enough few =
     before-past image_bytes n taken (Show image ∷ more) enough
-    ∙ (ap (λ rest. taken ++ rest) (ends-there image_bytes (n - size image_bytes taken) (Show image) more (omega (arith, enough, few)))
-    ∙ append-nil taken)
+    ∙ (cc (ends-there image_bytes (n - size image_bytes taken) (Show image) more (omega (arith, enough, few)), append-nil taken))

@@ -1,5 +1,5 @@
 -- A plan's run whose end was saved, and that goes on from the file, is the run of both scripts at once.
-use Rattle.std.proofs.Common.{◌≡◌, ℕ, ◌+◌, ◌-◌, ◌*◌, ◌/◌, ◌≤◌, nat_le, arith, List, [], ◌++◌, Option, None, Some}
+use Rattle.std.proofs.Common.{◌≡◌, ℕ, ◌+◌, ◌-◌, ◌*◌, ◌/◌, ◌≤◌, arith, List, [], ◌++◌, Option, None, Some, rules}
 use Rattle.std.proofs.Common.{Bool, true, not, ◌&&◌, if◌then◌else◌, refl, sym, ap, subst, ◌∙◌}
 use Rattle.std.proofs.lemmas.Bool.{le-leb}
 use Rattle.pac_board_course.specs.BoardView.{IsBoard, power_on_board_view}
@@ -8,7 +8,7 @@ use Rattle.pac_board_course.specs.Entry.{Entry}
 use Rattle.pac_board_course.specs.Output.{picture_count}
 use Rattle.pac_board_course.specs.Shown.{blank_count}
 use Rattle.pac_board_course.specs.RomParts.{Parts}
-use Rattle.pac_board_course.specs.State.{BoardState, BoardValue, latest, most_asked, power_on_board}
+use Rattle.pac_board_course.specs.State.{BoardValue, latest, most_asked, power_on_board}
 use Rattle.pac_board_course.specs.Step.{frame_ticks}
 use Rattle.pac_board_course.specs.Stop.{Stop}
 use Rattle.pac_board_course.specs.Stretch.{Stretch}
@@ -20,20 +20,18 @@ use Rattle.pac_board_course.proofs.Outputs.{outputs-timed}
 use Rattle.pac_board_course.proofs.Resumed.{resumed-runs-end, runs-begin, stopped-runs-stay}
 use Rattle.pac_board_course.proofs.ResumedTimes.{resumed-runs-are-timed}
 use Rattle.pac_debug.specs.Running.{play_of}
-use Rattle.pac_state.specs.Files.{IsFile, IsState, board_of_file}
-use Rattle.pac_state.specs.Text.{save_text, written_version}
+use Rattle.pac_state.specs.Files.{IsFile, board_of_file}
+use Rattle.pac_state.specs.Text.{written_version}
 use Rattle.pac_state.proofs.Files.{text-board}
-use Rattle.pac_run.specs.Parts.{AreOneRun, JoinsFirst, RunsInParts, StoppedBefore, outcomes_joined, saved_board, sound_after_header}
-use Rattle.pac_run.specs.Parts.{with_script}
+use Rattle.pac_run.specs.Parts.{AreOneRun, JoinsFirst, RunsInParts, StoppedBefore, saved_board, with_script}
 use Rattle.pac_run.specs.Plan.{Plan}
 use Rattle.pac_run.specs.declared.fault.StateFault.{StateFault}
 use Rattle.pac_run.specs.declared.fault.StateFault.TheVariants.{Midst, Limit}
 use Rattle.pac_run.specs.Resumes.{IsInOrder, contents_from, end_state, last_state, outcome_since, resumed_of, run_from}
 use Rattle.pac_run.specs.Resumes.{run_of_play, state_text, without_history}
-use Rattle.pac_run.specs.Run.{RunContents, frames_text, outcome_of, trace_of}
+use Rattle.pac_run.specs.Run.{RunContents, outcome_of, trace_of}
 use Rattle.pac_run.specs.Start.{IsFirstBoard, has_room, is_between_frames, start_fault}
-use Rattle.pac_run.specs.Texts.{images_text}
-use Rattle.pac_run.proofs.Begins.{tests, time-fits, asked-fits}
+use Rattle.pac_run.proofs.Begins.{time-fits, asked-fits}
 use Rattle.pac_run.proofs.Cut.{JoinsRuns, board_of_end, has-frames, runs-joined, still-between}
 use Rattle.pac_run.proofs.Scripts.{play-joined, total-joined}
 
@@ -85,8 +83,7 @@ IsAtPowerOn set dip (Some bytes) board = Unit {0}
 
 at-power-on : (set : Parts) (dip : ℕ) (script : List Stretch) (from : Option (List ℕ)) (board : BoardValue)
     → IsFirstBoard set dip script from board → IsAtPowerOn set dip from board
-at-power-on set dip script None board is = is
-at-power-on set dip script (Some bytes) board is = tt
+at-power-on set dip script from board is = search rules
 
 run-since : (plan : Plan) (dip : ℕ) (from : Option (List ℕ)) (board : BoardValue) → IsAtPowerOn plan.set dip from board
     → run_from plan dip from board ≡ resumed_of plan board
@@ -106,8 +103,7 @@ contents-since plan dip (Some bytes) board is = refl
 -- it begins between two frames
 starts-between : (plan : Plan) (dip : ℕ) (from : Option (List ℕ)) (board : BoardValue) → IsFirstBoard plan.set dip plan.script from board
     → is_between_frames board.state ≡ true
-starts-between plan dip None board is = ap (λ (board : BoardValue). is_between_frames board.state) is
-starts-between plan dip (Some bytes) board is = (tests board.state (total_frames plan.script) is.begins).0
+starts-between plan dip from board is = search rules
 
 -- ---- where a run can begin
 
@@ -121,8 +117,7 @@ both-hold one other is has = rw (is, has) refl
 begins-with : (set : Parts) (dip : ℕ) (script longer : List Stretch) (from : Option (List ℕ)) (board : BoardValue)
     → IsFirstBoard set dip script from board → start_fault board.state (total_frames longer) ≡ None
     → IsFirstBoard set dip longer from board
-begins-with set dip script longer None board is none = is
-begins-with set dip script longer (Some bytes) board is none = record { file = is.file; board_is = is.board_is; begins = none }
+begins-with set dip script longer from board is none = search rules
 
 -- ---- a run that was saved, and the one after it
 
@@ -193,24 +188,16 @@ module _ (plan : Plan) (dip : ℕ) (from : Option (List ℕ)) (board : BoardValu
             let frames = total-joined plan.script second in
             let gone = (has-frames plan.set plan.items one_play (play_of second) board order.whole order.lie order.starts between
             open-yet).gone in
-            let time = time-fits taken.state (total_frames second) begins-there in
-            let asked = asked-fits taken.state (total_frames second) begins-there in
             let time_fits : frame_ticks * (board.state.now.time / frame_ticks + total_frames both) ≤ latest =
-            omega (arith, frames, gone, time) in
+            omega (arith, frames, gone, time-fits taken.state (total_frames second) begins-there) in
             let asked_fits : board.state.asked + frame_microseconds * total_frames both ≤ most_asked =
-            omega (arith, frames, gone, asked) in
-            no-fault (is_between_frames board.state) (has_room board.state (total_frames both)) between
-            (both-hold (nat_le (frame_ticks * (board.state.now.time / frame_ticks + total_frames both)) latest)
-            (nat_le (board.state.asked + frame_microseconds * total_frames both) most_asked)
-            (le-leb _ _ time_fits) (le-leb _ _ asked_fits))
+            omega (arith, frames, gone, asked-fits taken.state (total_frames second) begins-there) in grind (arith, between, both-hold, le-leb, no-fault)
 
         first-both : IsFirstBoard plan.set dip both from board
         first-both = begins-with plan.set dip plan.script both from board first begins-both
 
         held : IsBoard taken.state.now.board
-        held =
-            let ends = subst (λ (board : BoardValue). IsState board.state) saved-is order.ends in
-            record { memory = ends.memory; accumulators = ends.range.accumulators; lines = ends.range.picture }
+        held = grind (arith, saved-is)
 
         joined : JoinsRuns plan.set one_play (play_of second) board taken (resumed_of plan board)
             (run_of_play plan.set plan.items (play_of second) taken)
@@ -236,43 +223,20 @@ module _ (plan : Plan) (dip : ℕ) (from : Option (List ℕ)) (board : BoardValu
             }
 
         whole-is : contents_from (with_script plan both) dip from board ≡ whole_contents
-        whole-is = contents-since (with_script plan both) dip from board at-first ∙ (λ i. record {
-          outputs = (same-both i).outputs;
-          frames = total-joined plan.script second i;
-          listing = plan.listing;
-          outcome = outcome_since board (same-both i);
-        })
+        whole-is = grind (arith, at-first, contents-since, same-both, total-joined)
 
         texts : AreOneRun (contents_from plan dip from board) (contents_from (with_script plan second) other_dip (Some bytes) later)
             (contents_from (with_script plan both) dip from board)
-        texts = record {
-          images = (λ i. frames_text (one-is i) ++ frames_text (two-is i)) ∙ joined.images ∙ sym (ap frames_text whole-is);
-          sound =
-              (λ i. sound_after_header (one-is i) ++ sound_after_header (two-is i)) ∙ joined.sound ∙ sym (ap sound_after_header whole-is);
-          outcome =
-              (λ i. outcomes_joined (one-is i).outcome (two-is i).outcome) ∙ joined.outcome
-              ∙ sym (ap (λ (run : RunContents). run.outcome) whole-is);
-        }
+        texts = grind (arith, joined, one-is, two-is, whole-is)
 
         last-states : last_state (with_script plan second) other_dip (Some bytes) later ≡ last_state (with_script plan both) dip from board
         last-states =
             ap (λ board. end_state plan.set (total_frames second) board (resumed_of (with_script plan second) board)) later-is
             ∙ joined.state
-            ∙ sym ((λ i. end_state plan.set (total_frames both) board (run-since (with_script plan both) dip from board at-first i))
-            ∙ (λ i. end_state plan.set (total-joined plan.script second i) board (same-both i)))
+            ∙ sym (grind (arith, at-first, run-since, same-both, total-joined))
 
         pub joins-first : JoinsFirst plan dip from board second other_dip later
-        joins-first = record {
-          begins = first-both;
-          texts = texts;
-          state = ap (save_text written_version plan.set) last-states;
-          in_order = λ (later_order : IsInOrder (with_script plan second) other_dip (Some bytes) later). record {
-            whole = order.whole;
-            lie = order.lie;
-            starts = order.starts;
-            ends = subst (λ (state : BoardState). IsState state) last-states later_order.ends;
-          };
-        }
+        joins-first = grind (arith, first-both, last-states, texts)
 
     -- A run that met a stop is that of both scripts.
     module _ (stop : Stop) (met : (contents_from plan dip from board).outcome.stop ≡ Some stop) where
@@ -284,16 +248,7 @@ module _ (plan : Plan) (dip : ℕ) (from : Option (List ℕ)) (board : BoardValu
           (sym (ap (λ (run : RunContents). run.outcome.stop) (contents-since plan dip from board at-first)) ∙ met)
 
       pub stopped-before : StoppedBefore plan dip from board second
-      stopped-before =
-          let one = contents-since plan dip from board at-first in
-          let whole = contents-since (with_script plan both) dip from board at-first in
-          record {
-            images = ap frames_text one ∙ ap (λ (run : Walk (List Entry)). images_text run.outputs) (sym stays)
-                ∙ sym (ap frames_text whole);
-            outcome =
-                ap (λ (run : RunContents). run.outcome) one ∙ ap (outcome_since board) (sym stays)
-                ∙ sym (ap (λ (run : RunContents). run.outcome) whole);
-          }
+      stopped-before = grind (arith, at-first, contents-since, stays)
 
 -- ---- the law
 

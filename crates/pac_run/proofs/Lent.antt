@@ -1,5 +1,5 @@
 -- Writers that are lent, and what their owners have when the loans end: what holds of a writer that is lent holds of its owner.
-use Rattle.std.proofs.Common.{◌≡◌, ℕ, List, [], Result, Ok, Err, inl, inr, sym, ap, subst, ◌∙◌}
+use Rattle.std.proofs.Common.{◌≡◌, ℕ, List, [], Result, Ok, Err, inl, inr, subst, arith, rules}
 use Rattle.std.specs.Borrow.{MutBor}
 use Rattle.pac_media.specs.CountedFile.{Counted}
 use Rattle.pac_media.specs.WriteFault.{WriteFault}
@@ -41,16 +41,7 @@ module _ {W : Type 0} (took : W → List ℕ → W → Type 0) (refused : W → 
   owned = writing took refused owner.now left
 
   pub carries : Carries lent owned
-  carries = record {
-    takes = λ text takes. subst (λ new. took owner.now text new) (sym (ends (sym takes.0))) takes.1;
-    stops = λ text taken stop. record {
-      some_left = stop.some_left;
-      asked = stop.asked.now;
-      before = stop.before.1;
-      refusal = subst (λ new. refused stop.asked.now new) (sym (ends (sym (stop.refusal.0 ∙ stop.before.0)))) stop.refusal.1;
-    };
-    still = λ same. ends (ap (λ (it : MutBor W). it.ghost_name) (sym same)) ∙ ap (λ (it : MutBor W). it.now) same;
-  }
+  carries = search rules
 
 -- a writer that is handed back is the one that was lent
 pub carries-back : {W : Type 0} (took : W → List ℕ → W → Type 0) (refused : W → W → Type 0) (owner new writer : MutBor W) (left : W)
@@ -64,15 +55,8 @@ pub written : {W A : Type 0} (took : W → List ℕ → W → Type 0) (refused :
     (result : Result A WriteFault) (text : List ℕ) (file new : Counted (MutBor W))
     → HasTaken (lent_took took) owner [] file → Puts (lent_took took) (lent_refused refused) file text result new
     → (writer : MutBor W) → writer ≡ new.writer → Ends owner writer left → WritesWholeText (writing took refused owner.now left) text result
-written took refused owner left (Ok done) text file new fresh puts writer same ends =
-    (carries-back took refused owner new.writer writer left same ends).takes text (puts.takes.after owner [] fresh).written
-written took refused owner left (Err fault) text file new fresh puts writer same ends =
-    let stop = puts.after owner [] fresh in
-    record {
-      taken = stop.taken;
-      stopped = (carries-back took refused owner new.writer writer left same ends).stops text stop.taken stop.stopped;
-      count_is = puts.told ∙ stop.count_is;
-    }
+written took refused owner left (Ok done) text file new fresh puts writer same ends = search rules
+written took refused owner left (Err fault) text file new fresh puts writer same ends = search rules
 
 -- ---- one writer
 
@@ -117,13 +101,7 @@ module _ {F G W V : Type 0} {frames : Writing F} {other_frames : Writing G} {wav
     header_first = it.header_first;
     past = it.past;
   }
-  breaks play which.Text count it = record {
-    taken = it.taken;
-    among = it.among;
-    untold = it.untold;
-    images = shows.takes _ it.images;
-    sound = sound-of play.frames it.taken it.sound;
-  }
+  breaks play which.Text count it = grind (arith, sound-of)
   breaks play which.Listing count none = none
   breaks play which.Report count none = none
   breaks play which.State count none = none
@@ -145,17 +123,7 @@ module _ {T U : Type 0} {words : Writing T} {other_words : Writing U} (tells : C
 
   pub told-at-wave : (outputs : List Output) (taken : ℕ) → ToldAtWave words setting lines outputs taken
       → ToldAtWave other_words setting lines outputs taken
-  told-at-wave outputs taken told =
-      record {
-        header_first = λ few. tells.still (told.header_first few);
-        past = λ enough. let heard = told.past enough in
-            record {
-              waiting = heard.waiting;
-              among = heard.among;
-              no_picture = heard.no_picture;
-              told = told-till _ heard.told;
-            };
-      }
+  told-at-wave outputs taken told = search rules
 
 module _ {F G W V T U : Type 0} {frames : Writing F} {other_frames : Writing G} {wave : Writing W} {other_wave : Writing V}
     {words : Writing T} {other_words : Writing U} (shows : Carries frames other_frames) (sounds : Carries wave other_wave)

@@ -1,9 +1,8 @@
 -- A set that plays a program has the program's ROM, in which the program's items lie.
-use Rattle.std.proofs.Common.{◌≡◌, ℕ, List, Option, None, Some, option_map, option_copied, Result, Ok, Err, refl, sym, subst, ap, ◌∙◌, true}
+use Rattle.std.proofs.Common.{arith, rules, ◌≡◌, ℕ, List, Option, None, Some, option_map, option_copied, Result, Ok, Err, subst, ap, true}
 use Rattle.std.proofs.lemmas.Bool.{false≢true}
 use Rattle.std.specs.Prelude.{is_ok}
 use Rattle.std.specs.Option.{option_map_or}
-use Rattle.std.proofs.lemmas.Result.{IfOk-at_ok}
 use Rattle.std.proofs.lemmas.List.Elements.{All-nil}
 use Rattle.std.specs.Global.{Box}
 use Rattle.pac_asm.specs.PlacedItems.{AllLie, Lies}
@@ -12,34 +11,30 @@ use Rattle.pac_roms_manifest.specs.Sets.{set_of, fault_of_set, parts_of_set}
 use Rattle.pac_roms_manifest.specs.Results.{SetGives}
 use Rattle.pac_roms_manifest.specs.declared.fault.SetFault.{SetFault}
 use Rattle.pac_roms_manifest.specs.declared.fault.SetError.{SetError}
-use Rattle.pac_roms_manifest.specs.declared.fault.SetError.TheVariants as reading
 use Rattle.pac_roms_manifest.specs.declared.manifest.Manifest.{Manifest}
 use Rattle.pac_roms_manifest.specs.declared.part.Part.{Part}
 use Rattle.pac_asm.specs.Assembled.{Assembled, items_of}
-use Rattle.pac_board_course.specs.RomParts.{Parts}
+use Rattle.pac_board_course.specs.RomParts.{Parts, IsWhole}
 use Rattle.pac_run.specs.declared.fault.RunFault.{RunFault}
 use Rattle.pac_run.specs.declared.fault.RunFault.TheVariants as fault
 use Rattle.pac_board_course.specs.Script.{script_of}
 use Rattle.pac_board_course.specs.Stretch.{Stretch}
-use Rattle.pac_board_course.specs.RomParts.{IsWhole}
 use Rattle.pac_board_course.specs.State.{BoardValue}
 use Rattle.pac_run.specs.declared.inputs.RunInputs.{RunInputs}
 use Rattle.pac_run.specs.declared.fault.StateFault.{StateFault}
 use Rattle.pac_asm.specs.Results.{◌>>=◌}
-use Rattle.pac_run.specs.Plan.{set_in, IsStateRefused}
-use Rattle.pac_run.specs.PlanProofs.{fault_told, set_told, script_told, program_items, LieIn, Judges, PlaysProgram}
+use Rattle.pac_run.specs.Plan.{set_in, IsStateRefused, program_in, plan_of, plan_with}
+use Rattle.pac_run.specs.PlanProofs.{fault_told, set_told, script_told, program_items, LieIn, Judges}
 use Rattle.pac_run.specs.Start.{IsFirstBoard, RefusesState}
 use Rattle.pac_run.specs.Started.{IsPrepared, IsStarted, Prepares, StartsBoard}
 use Rattle.pac_run.proofs.Answered.{NoWrite, script-writes}
-use Rattle.pac_run.specs.Plan.{program_in, plan_of, plan_with}
 
 pub err-ok : {A : Type 0} (refused : RunFault) (value : A) → ◌≡◌ {A = Result A RunFault} (Err refused) (Ok value) → ⊥
 err-ok refused value e = false≢true (ap is_ok e)
 
 told-program : (refused : Option SetFault) (parts set : Parts) → set_told (option_map_or Err refused (Ok parts)) ≡ Ok set
     → parts.program ≡ set.program
-told-program None parts set e = IfOk-at_ok (λ (it : Parts). parts.program ≡ it.program) e refl
-told-program (Some refused) parts set e = absurd (err-ok (fault.Set refused) set e)
+told-program refused parts set e = search rules
 
 read-program : (read : Result Manifest SetFault) (files : List Part) (program : Assembled) (set : Parts)
     → set_told (read >>= λ manifest. set_of manifest files (Some program.rom)) ≡ Ok set → program.rom ≡ set.program
@@ -59,11 +54,7 @@ pub refused-set : (manifest : List ℕ) (files : List Part) (program : Option As
     (error : SetError)
     → manifest_of manifest ≡ Ok read → rom ≡ option_map (λ (it : Assembled). it.rom) program
     → SetGives {A = Parts} (Err error) (set_of read files rom) → Judges {A = Parts} (Err (fault_told error)) (set_in manifest files program)
-refused-set manifest files program read rom reading.Memory m r gives = tt
-refused-set manifest files program read rom (reading.Fault refused) m r gives =
-    ap (λ (it : Result Manifest SetFault). set_told (it >>= λ one. set_of one files (option_map (λ (it : Assembled). it.rom) program))) m
-    ∙ (ap (λ it. set_told (set_of read files it)) (sym r)
-    ∙ ap set_told gives)
+refused-set manifest files program read rom error m r gives = search rules
 
 -- the plan of inputs, of which each part is told
 plan-is : (inputs : RunInputs) (program : Option Assembled) (set : Parts) (script : List Stretch)
@@ -71,11 +62,7 @@ plan-is : (inputs : RunInputs) (program : Option Assembled) (set : Parts) (scrip
     → set_in inputs.manifest.now inputs.parts.now program ≡ Ok set → script_told (script_of inputs.script.now) ≡ Ok script
     → plan_of inputs ≡ Ok (plan_with inputs program set script)
 unfolding plan_of
-plan-is inputs program set script one other third =
-    ap (λ it. it >>= λ program. set_in inputs.manifest.now inputs.parts.now program >>= λ set.
-    script_told (script_of inputs.script.now) >>= λ script. Ok (plan_with inputs program set script)) one
-    ∙ (ap (λ it. it >>= λ set. script_told (script_of inputs.script.now) >>= λ script. Ok (plan_with inputs program set script)) other
-    ∙ ap (λ it. it >>= λ script. Ok (plan_with inputs program set script)) third)
+plan-is inputs program set script one other third = search rules
 
 -- the script is refused, after a source and a set without a fault
 module _ (inputs : RunInputs) (program : Option Assembled) (set : Parts) (one : program_in (option_copied inputs.source) ≡ Ok program)
@@ -86,19 +73,10 @@ module _ (inputs : RunInputs) (program : Option Assembled) (set : Parts) (one : 
 
     unscripted : (why : RunFault) → judged ≡ Err why → plan_of inputs ≡ Err why
     unfolding plan_of
-    unscripted why refused =
-        ap (λ it. it >>= λ program. set_in inputs.manifest.now inputs.parts.now program >>= λ set.
-        judged >>= λ script. Ok (plan_with inputs program set script)) one
-        ∙ (ap (λ it. it >>= λ set. judged >>= λ script. Ok (plan_with inputs program set script)) other
-        ∙ ap (λ it. it >>= λ script. Ok (plan_with inputs program set script)) refused)
+    unscripted why refused = search rules
 
     pub script-refused : (why : RunFault) → Judges {A = List Stretch} (Err why) judged → Prepares inputs from (Err why)
-    script-refused (fault.Source told) refused = unscripted (fault.Source told) refused
-    script-refused (fault.Set told) refused = unscripted (fault.Set told) refused
-    script-refused (fault.Script told) refused = unscripted (fault.Script told) refused
-    script-refused (fault.State told) refused = absurd (subst NoWrite refused (script-writes (script_of inputs.script.now)))
-    script-refused (fault.Write output count) refused = unscripted (fault.Write output count) refused
-    script-refused fault.NoMemory refused = tt
+    script-refused why refused = grind (arith, NoWrite, script-writes, unscripted)
 
 module _ (inputs : RunInputs) (program : Option Assembled) (set : Parts) (script : List Stretch)
     (one : program_in (option_copied inputs.source) ≡ Ok program) (other : set_in inputs.manifest.now inputs.parts.now program ≡ Ok set)
@@ -107,33 +85,14 @@ module _ (inputs : RunInputs) (program : Option Assembled) (set : Parts) (script
     pub prepared : (from : Option (List ℕ)) (board : Box BoardValue) (image : List ℕ) → IsWhole set → LieIn program
         → IsStarted (IsFirstBoard set inputs.dip script from) set script board.value
         → IsPrepared inputs from (record { program = program; board = board; script = script; image = image })
-    prepared from board image whole lie started =
-        let same = sym started.set_is in
-        record {
-          plan_is = plan-is inputs program set script one other third
-              ∙ ap (λ set. Ok (plan_with inputs program set script)) same;
-          board = subst (λ set. IsStarted (IsFirstBoard set inputs.dip script from) set script board.value) same started;
-          whole = subst IsWhole same whole;
-          lie = subst (λ set. PlaysProgram set program) same
-              (items-lie inputs.manifest.now inputs.parts.now program set other lie);
-        }
+    prepared from board image whole lie started = grind (arith, items-lie, plan-is)
 
     -- a state file that is refused
     pub state-refused : (from : Option (List ℕ)) (refusal : StateFault) → RefusesState set script from refusal
         → IsStateRefused inputs from refusal
-    state-refused from refusal refuses =
-        record {
-          plan = plan_with inputs program set script;
-          plan_is = plan-is inputs program set script one other third;
-          refuses = refuses;
-        }
+    state-refused from refusal refuses = grind (arith, plan-is)
 
     -- there was no board to begin with
     pub unstarted : (from : Option (List ℕ)) (why : RunFault) → StartsBoard set inputs.dip script from (Err why)
         → Prepares inputs from (Err why)
-    unstarted from (fault.State refusal) refuses = state-refused from refusal refuses
-    unstarted from fault.NoMemory refuses = tt
-    unstarted from (fault.Source refusal) refuses = absurd refuses
-    unstarted from (fault.Set refusal) refuses = absurd refuses
-    unstarted from (fault.Script refusal) refuses = absurd refuses
-    unstarted from (fault.Write output count) refuses = absurd refuses
+    unstarted from why refuses = grind (arith, state-refused)

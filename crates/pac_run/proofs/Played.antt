@@ -1,11 +1,11 @@
 -- What a player's run leaves of frames and wave and of the player, by its answer.
-use Rattle.std.proofs.Common.{◌≡◌, ℕ, pos, ◌*◌, List, [], ◌++◌, length, replicate, None, Some, Result, Ok, Err}
+use Rattle.std.proofs.lemmas.Grind.{common_steps}
+use Rattle.std.proofs.Common.{◌≡◌, ℕ, pos, ◌*◌, List, [], ◌++◌, length, replicate, None, Some, Result, Ok, Err, rules}
 use Rattle.std.proofs.Common.{sym, ap, subst, ◌∙◌, append_assoc, append-nil, arith}
 use Rattle.std.specs.Prelude.{IfOk}
 use Rattle.pac_media.specs.CountedLaws.{HasTaken}
 use Rattle.pac_media.specs.CountedFile.{Counted}
 use Rattle.pac_media.specs.WriteFault.{WriteFault}
-use Rattle.pac_media.specs.Writes.{StopsAfter}
 use Rattle.pac_media.proofs.Files.{Joins, stops-within}
 use Rattle.pac_media.specs.Samples.{samples_text, wav_header}
 use Rattle.pac_media.specs.Sound.{HasText, Delivers, SoundFails, FinishesSound}
@@ -19,12 +19,11 @@ use Rattle.pac_debug.specs.declared.line.CommandFault.TheVariants as faults
 use Rattle.pac_run.specs.declared.fault.OutputFault.{OutputFault}
 use Rattle.pac_run.specs.declared.fault.Output.{Output as Which}
 use Rattle.pac_run.specs.declared.fault.Output.TheVariants as which
-use Rattle.pac_run.specs.declared.fault.RunFault.TheVariants as fault
 use Rattle.pac_run.specs.declared.film.Film.{Film}
 use Rattle.pac_run.specs.Films.{film_took, film_giving}
 use Rattle.pac_run.specs.Playing.{IsBrokenOff, IsPlayHeldUp, IsPlayed, Played, PlaysInto}
-use Rattle.pac_run.specs.Recorded.{BreaksPlay, HasBegun, RecordsPlay, Reel, WritesPlay, WritesSound, heard_by, shown_by}
-use Rattle.pac_run.specs.Run.{Writing, Writings, IsUnwritten, TakesText, writing}
+use Rattle.pac_run.specs.Recorded.{BreaksPlay, HasBegun, RecordsPlay, Reel, WritesSound, heard_by, shown_by}
+use Rattle.pac_run.specs.Run.{Writing, IsUnwritten, writing}
 use Rattle.pac_run.specs.Texts.{images_text, sound_text, wave_file_text, wave_so_far}
 use Rattle.pac_run.proofs.Filmed.{filmed, header-long, zeros-last}
 use Rattle.pac_run.proofs.Broken.{StopsThere, sound-of, stops-among, stops-at-zeros}
@@ -53,25 +52,17 @@ pub header-broke : {F W : Type 0} (play : Played) (frames : Writing F) → IsUnw
     → BreaksPlay play frames (writing took refused wave new.file.writer) which.Wave fault.count
 header-broke play frames still unplayed took refused wave count old new fault same text fails =
     let stop = fails.after wave (wav_header (frame_samples * count)) text in
-    let less = stop.stopped.some_left in
     let long = ap length (append-nil (wav_header (frame_samples * count))) ∙ header-long (frame_samples * count) in
     let sound = sound_text (frame_samples * play.frames) play.gives in
-    let whole : (wav_header (frame_samples * count) ++ []) ++ sound ≡ wave_file_text play.frames play.gives =
-    ap (λ head. head ++ sound) (append-nil (wav_header (frame_samples * count)))
-    ∙ ap (λ (n : ℕ). wav_header (frame_samples * n) ++ sound) same in
+    let whole : (wav_header (frame_samples * count) ++ []) ++ sound ≡ wave_file_text play.frames play.gives = search rules in
     record {
       film = record {
-        sound = record {
-          taken = stop.taken;
-          stopped = subst (λ (text : List ℕ). StopsAfter took refused wave text stop.taken new.file.writer) whole
-              (stops-within stop.stopped sound);
-          count_is = fails.told ∙ stop.count_is;
-        };
+        sound = grind (arith, stops-within);
         header_first = λ few. still;
-        images = λ enough. absurd (omega (arith, enough, less, long));
+        images = λ enough. absurd (omega (arith, enough, long));
       };
       header_first = λ few. unplayed;
-      past = λ enough. absurd (omega (arith, enough, less, long));
+      past = λ enough. absurd (omega (arith, enough, long));
     }
 
 -- ---- what was played
@@ -83,17 +74,10 @@ module _ {F W : Type 0} (at : Reel F W) (play : Played) (old : Film F W) (begins
   breaks taken left new which.Wave count all told (stop, past, heard) = record {
     film = stop;
     header_first = λ few. absurd (omega (arith, few, past));
-    past = λ enough. record {
-      waiting = heard.waiting;
-      among = (left, ap (λ given. given ++ left) (sym heard.parts) ∙ all);
-      no_picture = heard.no_picture;
-      told = subst play.told heard.parts told;
-    };
+    past = grind (arith, common_steps);
   }
-  breaks taken left new which.Listing count all told none = none
-  breaks taken left new which.Report count all told none = none
-  breaks taken left new which.State count all told none = none
   breaks taken left new which.Text count all told none = absurd none
+  breaks taken left new output count all told none = none
 
   -- up to a refusal of the sink
   pub held-up : Joins at.took_f → (mid : Film F W) (fault : OutputFault)
@@ -147,13 +131,3 @@ module _ {S : Type 0} (to : Giving S) (play : Played) (old new : S) (answer : Re
   at-text why here = subst (λ answer. PlaysInto to play old answer new) (is ∙ ap (λ it. Err it) here) given
 
 -- ---- listing and report, too
-
-pub broke : {F W L R : Type 0} (play : Played) (listing : List ℕ) (to : Writings F W L R) (output : Which) (count : ℕ)
-    → TakesText to.listing listing → BreaksPlay play to.frames to.wave output count → IsUnwritten to.report
-    → WritesPlay play listing to (Err (fault.Write output count))
-broke play listing to which.Listing count listed it still = absurd it
-broke play listing to which.Report count listed it still = absurd it
-broke play listing to which.Frames count listed it still = record { listing = listed; film = it; report = still }
-broke play listing to which.Wave count listed it still = record { listing = listed; film = it; report = still }
-broke play listing to which.State count listed it still = record { listing = listed; film = it; report = still }
-broke play listing to which.Text count listed it still = record { listing = listed; film = it; report = still }

@@ -1,8 +1,8 @@
 -- The answers of what was prepared, begun and written.
-use Rattle.std.proofs.Common.{◌≡◌, ℕ, List, Option, Result, Ok, Err, ap, subst, ◌∙◌}
+use Rattle.std.proofs.Common.{◌≡◌, ℕ, List, Option, Result, Ok, Err, ap, subst, ◌∙◌, arith, rules}
 use Rattle.pac_board_course.specs.Course.{CourseValue, begun, course_after, way_on}
 use Rattle.pac_board_course.specs.CourseProofs.{board_asked}
-use Rattle.pac_board_course.specs.State.{BoardState, BoardValue}
+use Rattle.pac_board_course.specs.State.{BoardValue}
 use Rattle.pac_board_course.specs.declared.outcome.Outcome.{Outcome}
 use Rattle.pac_state.specs.Files.{IsState}
 use Rattle.pac_run.specs.declared.fault.RunFault.{RunFault}
@@ -11,9 +11,8 @@ use Rattle.pac_run.specs.declared.plan.Prepared.{Prepared}
 use Rattle.pac_run.specs.Plan.{Plan, plan_with}
 use Rattle.pac_run.specs.Playing.{course_playing, played}
 use Rattle.pac_run.specs.Recorded.{IsRunTo, RunsTo, WritesPlay, WritesRun, course_contents}
-use Rattle.pac_run.specs.Resumes.{contents_from, last_state}
+use Rattle.pac_run.specs.Resumes.{contents_from, last_state, WithFirstBoard}
 use Rattle.pac_run.specs.Run.{Writings, WithPlan}
-use Rattle.pac_run.specs.Resumes.{WithFirstBoard}
 use Rattle.pac_run.specs.Started.{IsPrepared}
 use Rattle.pac_run.proofs.Answered.{broke-off, written}
 use Rattle.pac_run.proofs.Traced.{same-contents, same-state}
@@ -51,10 +50,7 @@ module _ (inputs : RunInputs) (from : Option (List ℕ)) (prepared : Prepared) (
           let end-of : end ≡ board_asked (course_after (begun prepared.board.value prepared.script) (way_on (begun prepared.board.value
           prepared.script))) =
           asked ∙ ap board_asked it.film.done.course ∙ ap (λ course. board_asked (course_after course (way_on course))) begins in
-          let there : end.state ≡ last_state plan inputs.dip from prepared.board.value =
-          ap (λ (board : BoardValue). board.state) end-of
-          ∙ same-state inputs prepared.program prepared.board.value prepared.script ready.whole ready.lie ready.board.holds from
-          ready.board.first in
+          let there : end.state ≡ last_state plan inputs.dip from prepared.board.value = grind (arith, same-state) in
           record {
             plan = plan;
             plan_is = ready.plan_is;
@@ -65,12 +61,7 @@ module _ (inputs : RunInputs) (from : Option (List ℕ)) (prepared : Prepared) (
                 files = written-so (Ok outcome) new it;
                 set_is = ap (λ (board : BoardValue). board.set) end-of;
                 state_is = there;
-                in_order = record {
-                  whole = ready.whole;
-                  lie = ready.lie;
-                  starts = ready.board.holds;
-                  ends = subst (λ (state : BoardState). IsState state) there holds;
-                };
+                in_order = search rules;
               };
             };
           }

@@ -1,8 +1,7 @@
 -- Two scripts, one after another, are one play.
-use Rattle.std.proofs.Common.{◌≡◌, ℕ, ◌+◌, ◌-◌, ◌≤◌, nat_le, Bool, true, false, ◌&&◌, if◌then◌else◌, arith, inl, inr}
-use Rattle.std.proofs.Common.{List, [], ◌∷◌, ◌++◌, refl, ap, subst, ◌∙◌}
-use Rattle.std.specs.Prelude.{nat_lt}
-use Rattle.std.proofs.lemmas.Bool.{cases_Bool, false≢true, le-ltb}
+use Rattle.std.proofs.Common.{◌≡◌, ℕ, ◌+◌, ◌-◌, ◌≤◌, nat_le, Bool, true, if◌then◌else◌, arith, inl, inr, rules}
+use Rattle.std.proofs.Common.{List, [], ◌∷◌, ◌++◌, refl, ap, ◌∙◌}
+use Rattle.std.proofs.lemmas.Bool.{cases_Bool, le-ltb}
 use Rattle.std.proofs.lemmas.Bool.Decides.{nat_tests}
 use Rattle.pac_board_course.specs.Stretch.{Stretch}
 use Rattle.pac_board_course.specs.Stretches.{total_frames, held, held_after}
@@ -24,52 +23,25 @@ unheld before frame (line ∷ lines) early =
     rw (le-ltb before frame early) (unheld (before + line.frames) frame lines (omega (arith, early)))
 
 same-test : (one other : Bool) → (one ≡ true → other ≡ true) → (other ≡ true → one ≡ true) → one ≡ other
-same-test true true there back = refl
-same-test true false there back = absurd (false≢true (there refl))
-same-test false true there back = absurd (false≢true (back refl))
-same-test false false there back = refl
+same-test one other there back = search rules
 
 -- frames may be counted from any one on
 shifted : (shift before frame : ℕ) (lines : List Stretch) → shift ≤ frame
     → held_after (shift + before) lines frame ≡ held_after before lines (frame - shift)
 shifted shift before frame [] within = refl
 shifted shift before frame (line ∷ lines) within =
-    let after : nat_lt (shift + before) frame ≡ nat_lt before (frame - shift) =
-    same-test (nat_lt (shift + before) frame) (nat_lt before (frame - shift)) (λ e. grind (arith, nat_tests, e))
-    (λ e. grind (arith, nat_tests, e)) in
-    let up_to : nat_le frame ((shift + before) + line.frames) ≡ nat_le (frame - shift) (before + line.frames) =
-    same-test (nat_le frame ((shift + before) + line.frames)) (nat_le (frame - shift) (before + line.frames))
-    (λ e. grind (arith, nat_tests, e)) (λ e. grind (arith, nat_tests, e)) in
-    let sum : (shift + before) + line.frames ≡ shift + (before + line.frames) = omega arith in
-    let rest = ap (λ n. held_after n lines frame) sum ∙ shifted shift (before + line.frames) frame lines within in
-    λ i. if after i && up_to i then line.inputs.0 else rest i
+    grind (arith, nat_tests, same-test, shifted shift (before + line.frames) frame lines within)
 
 -- of two tests the first is passed only where the second is
 pick : (first within : Bool) (mask other next : ℕ) → (first ≡ true → within ≡ true)
     → (if first then mask else if within then other else next) ≡ (if within then (if first then mask else other) else next)
-pick true true mask other next only = refl
-pick true false mask other next only = absurd (false≢true (only refl))
-pick false within mask other next only = refl
+pick first within mask other next only = search rules
 
 held-after : (before frame : ℕ) (one other : List Stretch)
     → held_after before (one ++ other) frame
     ≡ (if nat_le frame (before + total_frames one) then held_after before one frame else held_after (before + total_frames one) other frame)
-held-after before frame [] other =
-    let none : before ≡ before + 0 = omega arith in
-    subst (λ n. held_after before other frame ≡ (if nat_le frame n then 0 else held_after n other frame)) none
-    (elim (cases_Bool (nat_le frame before)) [
-      | inl e ↦ rw e (unheld before frame other (grind (arith, nat_tests, e)))
-      | inr e ↦ rw e refl
-    ])
-held-after before frame (line ∷ lines) other =
-    let sum : (before + line.frames) + total_frames lines ≡ before + (line.frames + total_frames lines) = omega arith in
-    let rest = held-after (before + line.frames) frame lines other
-    ∙ ap (λ n. if nat_le frame n then held_after (before + line.frames) lines frame else held_after n other frame) sum in
-    let first = nat_lt before frame && nat_le frame (before + line.frames) in
-    ap (λ mask. if first then line.inputs.0 else mask) rest
-    ∙ pick first (nat_le frame (before + (line.frames + total_frames lines))) line.inputs.0
-    (held_after (before + line.frames) lines frame) (held_after (before + (line.frames + total_frames lines)) other frame)
-    (λ e. grind (arith, nat_tests, e))
+held-after before frame [] other = grind (arith, cases_Bool, nat_tests, unheld)
+held-after before frame (line ∷ lines) other = grind (arith, nat_tests, pick, held-after (before + line.frames) frame lines other)
 
 held-joined : (one other : List Stretch) (frame : ℕ)
     → held (one ++ other) frame ≡ (if nat_le frame (total_frames one) then held one frame else held other (frame - total_frames one))

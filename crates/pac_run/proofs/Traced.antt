@@ -1,7 +1,7 @@
 -- A course's run, and a session's, is that of the plan.
-use Rattle.std.proofs.Common.{◌≡◌, ℕ, ◌+◌, ◌-◌, ◌*◌, ◌/◌, ◌^◌, ◌<◌, ◌≤◌, min, arith}
+use Rattle.std.proofs.Common.{◌≡◌, ℕ, ◌+◌, ◌-◌, ◌*◌, ◌/◌, ◌^◌, ◌<◌, ◌≤◌, arith, rules}
 use Rattle.std.proofs.Common.{List, [], Option, None, Some, refl, sym, ap, subst, ◌∙◌}
-use Rattle.pac_board_course.specs.Stretches.{total_frames, held, most_frames}
+use Rattle.pac_board_course.specs.Stretches.{total_frames, most_frames}
 use Rattle.pac_board_course.specs.Stretch.{Stretch}
 use Rattle.pac_asm.specs.Assembled.{Assembled}
 use Rattle.pac_board_course.specs.RomParts.{Parts, IsWhole}
@@ -9,9 +9,9 @@ use Rattle.pac_board_course.specs.BoardView.{BoardView, IsBoard, power_on_board_
 use Rattle.pac_board_course.specs.Carried.{walk_view}
 use Rattle.pac_board_course.specs.Entry.{Entry}
 use Rattle.pac_board_course.specs.History.{board_after_entries}
-use Rattle.pac_board_course.specs.Output.{Output, picture_count}
-use Rattle.pac_board_course.specs.Step.{Moment, frame_ticks}
-use Rattle.pac_board_course.specs.Trace.{by_history, by_view, frames_gone, play_step, run_at, trace, frame_steps}
+use Rattle.pac_board_course.specs.Output.{picture_count}
+use Rattle.pac_board_course.specs.Step.{frame_ticks}
+use Rattle.pac_board_course.specs.Trace.{by_history, by_view, frames_gone, run_at, trace, frame_steps}
 use Rattle.pac_board_course.specs.Walk.{Walk}
 use Rattle.pac_board_course.proofs.Agreed.{runs-agree, resumed-runs-agree, power-on-board}
 use Rattle.pac_board_course.proofs.HostCarried.{steps-agree}
@@ -20,11 +20,10 @@ use Rattle.pac_board_course.proofs.Resumed.{resumed-runs-end}
 use Rattle.pac_board_course.proofs.ResumedTimes.{resumed-runs-are-timed}
 use Rattle.pac_board_course.proofs.Runs.{walk-below}
 use Rattle.pac_board_course.proofs.Walks.{play-timely}
-use Rattle.pac_board_course.specs.State.{BoardValue, nothing_due}
+use Rattle.pac_board_course.specs.State.{BoardValue}
 use Rattle.pac_board_course.proofs.Begun.{courses-begin}
-use Rattle.pac_board_course.specs.Course.{CourseValue, begun, course_after, end_of, frame_microseconds}
+use Rattle.pac_board_course.specs.Course.{CourseValue, begun, course_after, end_of, held_in, next_in, way_on}
 use Rattle.pac_board_course.specs.CourseProofs.{board_asked}
-use Rattle.pac_board_course.specs.Course.{held_in, next_in, way_on}
 use Rattle.pac_debug.specs.MotionsLaws.{IsOutcome}
 use Rattle.pac_debug.specs.Running.{play_of}
 use Rattle.pac_debug.specs.RunningLaws.{whole_run}
@@ -34,12 +33,11 @@ use Rattle.pac_run.specs.declared.inputs.RunInputs.{RunInputs}
 use Rattle.pac_run.specs.DebugsProofs.{IsReady}
 use Rattle.pac_run.specs.Debugs.{IsSeenThrough, setting_of_plan}
 use Rattle.pac_run.specs.Plan.{Plan, plan_with}
-use Rattle.pac_run.specs.PlanProofs.{program_items}
-use Rattle.pac_run.specs.PlanProofs.{PlaysProgram}
+use Rattle.pac_run.specs.PlanProofs.{program_items, PlaysProgram}
 use Rattle.pac_run.specs.Playing.{outcome_between}
 use Rattle.pac_run.specs.Recorded.{course_contents}
 use Rattle.pac_run.specs.Resumes.{contents_from, end_state, resumed_of, run_from, without_history}
-use Rattle.pac_run.specs.Run.{RunContents, trace_of, outcome_of}
+use Rattle.pac_run.specs.Run.{trace_of, outcome_of}
 use Rattle.pac_run.specs.Start.{IsFirstBoard}
 
 -- ---- from power-on
@@ -70,12 +68,7 @@ module _ (inputs : RunInputs) (program : Option Assembled) (set : Parts) (script
           ticks = run.now.time;
           stop = run.stop;
         }) (outcome_of (trace_of plan inputs.dip))
-    same-end run is =
-        let same = is ∙ same-trace in
-        let now = ap (λ (run : Walk BoardView). run.now) same in
-        let met = ap (λ (run : Walk BoardView). run.stop) same in
-        let frames = ap (λ (now : Moment BoardView). now.time / frame_ticks) now ∙ same-blanks in
-        λ i. record { frames = frames i; steps = (now i).steps; ticks = (now i).time; stop = met i }
+    same-end run is = grind (arith, same-blanks, same-trace)
 
 -- ---- from the board that a run begins with
 
@@ -91,11 +84,7 @@ module _ (inputs : RunInputs) (program : Option Assembled) (board : BoardValue) 
     -- What a course has left is the plan's run, told by the view.
     run-viewed : (from : Option (List ℕ)) → IsFirstBoard board.set inputs.dip script from board
         → way_on (begun board script) ≡ viewed (run_from played inputs.dip from board)
-    run-viewed None is =
-        ap (λ board. way_on (begun board script)) is
-        ∙ courses-begin board.set inputs.dip script
-        ∙ same-trace inputs program board.set script whole lie
-        ∙ ap (λ (start : BoardValue). walk_view (board_after_entries board.set start.state.now.board) (trace_of played inputs.dip)) (sym is)
+    run-viewed None is = cc (is, courses-begin board.set inputs.dip script, same-trace inputs program board.set script whole lie)
     run-viewed (Some bytes) taken =
         sym (resumed-runs-agree board.set (program_items program) board.state.now.board (play_of script)
         (without_history board.state.now) whole lie holds).whole
@@ -125,62 +114,18 @@ module _ (inputs : RunInputs) (program : Option Assembled) (board : BoardValue) 
         → let end = run_from played inputs.dip from board in
         outcome_between board.state.now.time board.state.now.steps (viewed end).now end.stop
         ≡ (contents_from played inputs.dip from board).outcome
-    same-outcome None is =
-        let same = counts None is in
-        λ i. record { frames = same.0 i; steps = same.1 i; ticks = same.2 i; stop = (trace_of played inputs.dip).stop }
-    same-outcome (Some bytes) taken =
-        let same = counts (Some bytes) taken in
-        λ i. record { frames = same.0 i; steps = same.1 i; ticks = same.2 i; stop = (resumed_of played board).stop }
-
-    -- the contents of a run's texts, told by the outputs and the outcome
-    given-of : (outputs : List Output) (outcome : Outcome) → RunContents
-    given-of outputs outcome =
-        record { outputs = outputs; frames = total_frames script; listing = played.listing; outcome = outcome }
+    same-outcome from is = grind (arith, counts)
 
     pub same-contents : (from : Option (List ℕ)) → IsFirstBoard board.set inputs.dip script from board
         → course_contents inputs program (begun board script) ≡ contents_from played inputs.dip from board
-    same-contents from first =
-        ap (λ (run : Walk BoardView). record {
-          outputs = run.outputs;
-          frames = total_frames script;
-          listing = played.listing;
-          outcome = outcome_between board.state.now.time board.state.now.steps run.now run.stop;
-        }) (run-viewed from first)
-        ∙ rest from first
-      where
-        rest : (from : Option (List ℕ)) (first : IsFirstBoard board.set inputs.dip script from board)
-            → let end = run_from played inputs.dip from board in
-            ◌≡◌ {A = RunContents} (record {
-              outputs = end.outputs;
-              frames = total_frames script;
-              listing = played.listing;
-              outcome = outcome_between board.state.now.time board.state.now.steps (viewed end).now end.stop;
-            }) (contents_from played inputs.dip from board)
-        rest None is = ap (λ outcome. record {
-          outputs = (trace_of played inputs.dip).outputs;
-          frames = total_frames script;
-          listing = played.listing;
-          outcome = outcome;
-        }) (same-outcome None is)
-        rest (Some bytes) taken = ap (λ outcome. record {
-          outputs = (resumed_of played board).outputs;
-          frames = total_frames script;
-          listing = played.listing;
-          outcome = outcome;
-        }) (same-outcome (Some bytes) taken)
+    same-contents from first = grind (arith, run-viewed, same-outcome)
 
     -- The state at its end is that of the course's board.
     pub same-state : (from : Option (List ℕ)) → IsFirstBoard board.set inputs.dip script from board
         → let course = begun board script in
         (board_asked (course_after course (way_on course))).state
         ≡ end_state board.set (total_frames script) board (run_from played inputs.dip from board)
-    same-state from first =
-        ap (λ (run : Walk BoardView). record {
-          now = run.now;
-          asked = board.state.asked
-              + frame_microseconds * min (total_frames script) (run.now.time / frame_ticks + 1 - board.state.now.time / frame_ticks);
-          due = nothing_due;
-        }) (run-viewed from first)
+    same-state from first = grind (arith, run-viewed)
 
 -- ---- how far a course goes
 
@@ -202,13 +147,10 @@ module _ (inputs : RunInputs) (program : Option Assembled) (session : SessionVal
 
     shown-whole : whole_run session.setting
         ≡ shown inputs program session.setting.set session.setting.script ready.whole ready.lie
-    shown-whole = ap (λ switches. trace (by_view session.setting.set) (play_of session.setting.script) (power_on_board_view switches))
-        ready.switches
+    shown-whole = search rules
 
     pub session-outputs : (whole_run session.setting).outputs ≡ (trace_of session_plan inputs.dip).outputs
-    session-outputs =
-        ap (λ (run : Walk BoardView). run.outputs)
-        (shown-whole ∙ same-trace inputs program session.setting.set session.setting.script ready.whole ready.lie)
+    session-outputs = cc (shown-whole, same-trace inputs program session.setting.set session.setting.script ready.whole ready.lie)
 
     pub session-outcome : (outcome : Outcome) → IsOutcome session outcome → outcome ≡ outcome_of (trace_of session_plan inputs.dip)
     session-outcome outcome is =
@@ -223,12 +165,7 @@ module _ (inputs : RunInputs) (program : Option Assembled) (session : SessionVal
         let first = power_on_board_view inputs.dip in
         let told = run_at (by_history set items first) (play_of script) [] index in
         let same = sym (runs-agree set items inputs.dip index (play_of script) ready.whole ready.lie) in
-        let next = steps-agree set items first told.now ready.whole ready.lie (power-on-board inputs.dip) in
-        record {
-          run_is = same;
-          next_is =
-              ap (λ (run : Walk BoardView). play_step (by_view set) (held script) run.now) same ∙ sym (next.with_script (held script));
-        }
+        let next = steps-agree set items first told.now ready.whole ready.lie (power-on-board inputs.dip) in search rules
 
     pub same-setting : setting_of_plan session_plan inputs.dip ≡ session.setting
     same-setting = λ i. record { set = session.setting.set; switches = sym ready.switches i; script = session.setting.script }

@@ -1,21 +1,14 @@
-use Rattle.std.proofs.Common.{ap, refl}
+use Rattle.std.proofs.Common.{ap, arith}
 use Rattle.std.proofs.lemmas.Result.{err_from_is_err_and}
 use Rattle.pac_run.specs.declared.watch.Watching.{Watching}
-use Rattle.pac_run.specs.Run.{writing, writings}
+use Rattle.pac_run.specs.Run.{writings}
 use Rattle.pac_run.proofs.Carried.{debugs}
 use Rattle.pac_run.proofs.Debugged.{debugged, ready-session, refused-all}
 use Rattle.pac_run.proofs.Lent.{carries-back, itself}
 use Rattle.pac_run.proofs.debug.debug_all.Goals as goal
 
 pub returns-in_err-program : goal.returns-in_err-program
-returns-in_err-program g c =
-    let p = err_from_is_err_and c.from_residual.result c.from_residual.ensures.1 in
-    rw (p.1, p.2)
-    (refused-all c.args.inputs.now c.args.commands.now
-    (writings g.F.Out.took g.F.Out.refused g.W.Out.took g.W.Out.refused g.L.Out.took g.L.Out.refused g.R.Out.took g.R.Out.refused
-    c.args.to.now c.args.to.now)
-    (writing g.T.Out.took g.T.Out.refused c.args.text.now c.args.text.now) c.in_err-program.field-0.0 c.in_err-program.ensures
-    (record { frames = refl; wave = refl; listing = refl; report = refl }) refl)
+returns-in_err-program g c = grind (arith, err_from_is_err_and, refused-all)
 
 pub returns : goal.returns
 returns g c =

@@ -1,6 +1,6 @@
-use Rattle.std.proofs.Common.{option_copied, refl}
+use Rattle.std.proofs.Common.{option_copied, refl, rules}
 use Rattle.pac_run.specs.Run.{writing, writings}
-use Rattle.pac_run.proofs.Answered.{saved, save-refused, unsaved}
+use Rattle.pac_run.proofs.Answered.{save-refused, unsaved}
 use Rattle.pac_run.proofs.resume.resume_all.Goals as goal
 
 pub returns-in-Err : goal.returns-in-Err
@@ -12,12 +12,7 @@ returns-in-Err g c =
     c.in-Err.ensures refl
 
 pub returns-in-Ok-put_state : goal.returns-in-Ok-put_state
-returns-in-Ok-put_state g c =
-    saved
-    (writings g.F.Out.took g.F.Out.refused g.W.Out.took g.W.Out.refused g.L.Out.took g.L.Out.refused g.R.Out.took g.R.Out.refused
-    c.args.to.now c.run_from.new.to)
-    (writing g.S.Out.took g.S.Out.refused c.args.state.now c.put_state.new.state) c.args.inputs.now (option_copied c.args.from)
-    c.in-Ok.ran c.in-Ok.ensures (rw (← c.deref.ensures) c.in-Ok-put_state.ensures)
+returns-in-Ok-put_state g c = search rules
 
 pub returns : goal.returns
 returns g c =

@@ -1,4 +1,4 @@
-use Rattle.std.proofs.Common.{option_copied, refl, subst}
+use Rattle.std.proofs.Common.{option_copied, subst, arith}
 use Rattle.std.proofs.lemmas.Result.{err_from_is_err_and}
 use Rattle.pac_board_course.specs.State.{BoardValue}
 use Rattle.pac_state.specs.Files.{IsState}
@@ -8,20 +8,7 @@ use Rattle.pac_run.proofs.Resumed.{held-back-early, ran-to}
 use Rattle.pac_run.proofs.run.run_from.Goals as goal
 
 pub returns-in_err-program : goal.returns-in_err-program
-returns-in_err-program g c =
-    let p = err_from_is_err_and c.from_residual.result c.from_residual.ensures.1 in
-    rw (p.1, p.2)
-    (unbegun
-    (writings g.F.Out.took g.F.Out.refused g.W.Out.took g.W.Out.refused g.L.Out.took g.L.Out.refused g.R.Out.took g.R.Out.refused
-    c.args.to.now (record {
-      frames = c.args.to.now.frames;
-      wave = c.args.to.now.wave;
-      listing = c.args.to.now.listing;
-      report =
-          c.args.to.now.report;
-    }))
-    c.args.inputs.now (option_copied c.args.from) c.in_err-program.field-0.0 c.in_err-program.ensures
-    (record { frames = refl; wave = refl; listing = refl; report = refl }))
+returns-in_err-program g c = let p = err_from_is_err_and c.from_residual.result c.from_residual.ensures.1 in grind (arith, unbegun)
 
 pub returns-in-Err : goal.returns-in-Err
 returns-in-Err g c =

@@ -1,4 +1,4 @@
-use Rattle.std.proofs.Common.{subst, sym}
+use Rattle.std.proofs.Common.{subst, sym, rules}
 use Rattle.std.specs.Prelude.{option_copied}
 use Rattle.pac_run.specs.Start.{IsFirstBoard}
 use Rattle.pac_run.specs.Started.{IsStarted}
@@ -11,5 +11,4 @@ returns-in-Ok c =
     let script = c.args.script.now in
     subst (λ from. IsStarted (IsFirstBoard set c.args.switches script (option_copied from)) set script c.in-Ok.board.value) (sym
     c.in-None.is)
-    (from-power-on set c.args.switches script c.in-Ok.board.value c.in-Ok.ensures (rw c.frames.ensures.count at
-    c.frames.ensures.within))
+    (from-power-on set c.args.switches script c.in-Ok.board.value c.in-Ok.ensures (search rules))

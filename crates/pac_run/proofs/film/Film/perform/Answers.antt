@@ -1,5 +1,4 @@
-use Rattle.std.proofs.Common.{refl}
-use Rattle.pac_run.specs.Films.{film_giving}
+use Rattle.std.proofs.Common.{refl, arith}
 use Rattle.pac_run.specs.Playing.{played}
 use Rattle.pac_run.specs.Recorded.{reel}
 use Rattle.pac_run.proofs.Played.{at-refusal, at-text, broke-off, ended, held-up}
@@ -16,14 +15,12 @@ returns-in-Err-Refused g c = λ frames wave begun.
     let play = played g.P.Plays.playing c.args.player.now c.play.new.self in
     held-up (reel g.F.Out.took g.F.Out.refused g.W.Out.took g.W.Out.refused frames wave) play c.args.self.now begun g.met.F.Out.joined
     c.play.new.sink c.refusal.result
-    (at-refusal (film_giving g.F.Out.took g.F.Out.refused g.W.Out.took g.W.Out.refused) play c.args.self.now c.play.new.sink c.play.result
-    c.in-Err-Refused.field-0 c.in-Err-Refused.is c.play.ensures c.in-Err-Refused.field-0-is) c.refusal.ensures
+    (grind (arith, at-refusal)) c.refusal.ensures
 
 pub returns-in-Err-Text : goal.returns-in-Err-Text
 returns-in-Err-Text g c = λ frames wave begun.
     let play = played g.P.Plays.playing c.args.player.now c.play.new.self in
     broke-off (reel g.F.Out.took g.F.Out.refused g.W.Out.took g.W.Out.refused frames wave) play c.args.self.now begun
     c.play.new.sink (record c.play.new.sink { wave = c.flush.new.self }) c.in-Err-Text.fault.count
-    (at-text (film_giving g.F.Out.took g.F.Out.refused g.W.Out.took g.W.Out.refused) play c.args.self.now c.play.new.sink c.play.result
-    c.in-Err-Text.field-0 c.in-Err-Text.is c.play.ensures c.in-Err-Text.fault c.in-Err-Text.field-0-is) refl c.flush.result
+    (grind (arith, at-text)) refl c.flush.result
     c.flush.ensures.written

@@ -1,20 +1,12 @@
-use Rattle.std.proofs.Common.{◌≡◌, ◌∙◌, ap, arith}
+use Rattle.std.proofs.Common.{◌≡◌, ◌∙◌, ap, arith, rules}
 use Rattle.pac_board_course.proofs.Taken.{refused-among}
 use Rattle.pac_board_course.specs.Course.{CourseValue, way_on}
 use Rattle.pac_board_course.specs.State.{BoardValue}
-use Rattle.pac_run.specs.Playing.{outcome_between}
 use Rattle.pac_run.proofs.Traced.{is-near}
 use Rattle.pac_run.proofs.play.CoursePlays.play.Goals as goal
 
 pub outcome_since-requires : goal.outcome_since-requires
-outcome_since-requires g c =
-    let near = is-near c.args.self.now c.requires.ready.begins c.requires.short in
-    let last : c.board-in-Ok.result.now.state.now.time ≡ (way_on c.args.self.now).now.time =
-    ap (λ (board : BoardValue). board.state.now.time) c.board-in-Ok.ensures
-    ∙ ap (λ (course : CourseValue). course.board.state.now.time) c.in-Ok.ensures.course in
-    let first : c.time-time.result ≡ c.args.self.now.board.state.now.time =
-    c.time-time.ensures.time ∙ ap (λ (board : BoardValue). board.state.now.time) c.board.ensures in
-    omega (arith, near, last, first)
+outcome_since-requires g c = grind (arith, is-near)
 
 pub returns-in-Ok : goal.returns-in-Ok
 returns-in-Ok g c =
@@ -24,16 +16,7 @@ returns-in-Ok g c =
     let time : c.time-time.result ≡ c.args.self.now.board.state.now.time =
     c.time-time.ensures.time ∙ ap (λ (board : BoardValue). board.state.now.time) c.board.ensures in
     let steps : c.steps-steps.result ≡ c.args.self.now.board.state.now.steps =
-    c.steps-steps.ensures ∙ ap (λ (board : BoardValue). board.state.now.steps) c.board-2.ensures in
-    record {
-      sink = c.in-Ok.ensures.sink_is;
-      done = record {
-        course = c.in-Ok.ensures.course;
-        outcome_is = c.outcome_since.ensures
-            ∙ (λ i. outcome_between (time i) (steps i) (last i) (c.in-Ok.ensures.stop_is i));
-      };
-      told = tt;
-    }
+    c.steps-steps.ensures ∙ ap (λ (board : BoardValue). board.state.now.steps) c.board-2.ensures in search rules
 
 pub returns-in-Err : goal.returns-in-Err
 returns-in-Err g c =

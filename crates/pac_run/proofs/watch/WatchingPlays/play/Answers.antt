@@ -1,16 +1,12 @@
-use Rattle.std.proofs.Common.{◌≡◌, ◌∙◌, Some, subst, sym}
+use Rattle.std.proofs.Common.{◌∙◌, sym, rules}
 use Rattle.std.specs.Str.Lines.{lines}
 use Rattle.pac_board_course.specs.SinksLaws.{by}
-use Rattle.pac_debug.specs.Session.{session_at_start}
-use Rattle.pac_run.specs.Playing.{OfSession}
 use Rattle.pac_run.specs.Run.{writing}
 use Rattle.pac_run.proofs.Watching.{of-session}
 use Rattle.pac_run.proofs.watch.WatchingPlays.play.Goals as goal
 
 pub watch_new-requires : goal.watch_new-requires
-watch_new-requires g c =
-    let is : c.args.self.now.session ≡ Some c.unwrap-session.result = sym c.take.ensures.value ∙ c.unwrap-session.ensures in
-    subst (OfSession (λ session. session ≡ session_at_start session.setting 0)) is c.requires.ready
+watch_new-requires g c = search rules
 
 pub returns : goal.returns
 returns g c =

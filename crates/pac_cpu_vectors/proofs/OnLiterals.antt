@@ -1,4 +1,5 @@
-use Rattle.std.proofs.Common.{refl}
+-- A name that opens all that the definition of a step is made of, for a proof that computes it on a literal.
+use Rattle.std.specs.Prelude.{⊤}
 use lib.Count.{ones}
 use Rattle.pac_table.specs.Table.{table}
 use Rattle.pac_table.specs.Instructions.{row_at, row_of}
@@ -22,20 +23,12 @@ use Rattle.pac_alu.specs.Rotate.{field_shift, shift_of, accumulator_rotation_of,
 use Rattle.pac_alu.specs.Transfer.{input_flags_of, control_load_flags_of, copy_flags_of, search_flags_of, port_flags_of}
 use Rattle.pac_alu.specs.Flags.{field_condition, is_met}
 use Rattle.pac_cpu.specs.Step.{cpu_step}
-use Rattle.pac_cpu_vectors.proofs.Pairs.{◌&◌}
-use Rattle.pac_cpu_vectors.proofs.lines.restarts.Goals as goal
 
-pub returns : goal.returns
+unfoldable pub step_on_literals : ⊤
 unfolding ones table row_at row_of effect_by control_effect byte_load_effect word_load_effect exchange_effect byte_arithmetic_effect
     word_arithmetic_effect rotate_and_shift_effect bit_operation_effect jump_effect call_effect port_effect sum_of difference_of logic_of
     field_operation arithmetic_of increment_of decrement_of negation_of complement_of carry_set_of carry_flipped_of decimal_of bit_test_of
     with_bit without_bit word_sum_of word_sum_with_carry_of word_difference_with_carry_of field_shift shift_of accumulator_rotation_of
     left_digits_of right_digits_of input_flags_of control_load_flags_of copy_flags_of search_flags_of port_flags_of field_condition is_met
     cpu_step
-returns c =
-    record { steps = refl } &
-    record { steps = refl } &
-    record { steps = refl } &
-    record { steps = refl } &
-    record { steps = refl } &
-    tt
+step_on_literals = tt
