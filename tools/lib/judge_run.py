@@ -212,7 +212,8 @@ class Run:
 
     def __init__(self, rom: bytes, frames: int, switches: int) -> None:
         self.rom, self.frames, self.switches = rom, frames, switches
-        self.stop = next((at for at, byte in enumerate(rom) if byte), 0x4000)
+        nops = len(rom) - len(rom.lstrip(b"\0"))
+        self.stop = nops if nops < len(rom) else 0x4000
         self.end = min(frames, 2) * NOPS
         known = self.stop < NOPS or frames <= 1 and self.end <= self.stop or self.stop == NOPS
         if not known or self.stop < self.end and not judge_source.disassembled(self.four(self.stop), 0)[0].startswith("DEFB"):

@@ -410,6 +410,7 @@ def lines_of(text: bytes) -> list[bytes]:
     return [piece[:-1] if piece.endswith(b"\r") else piece for piece in pieces] + ([last] if last else [])
 
 
+@functools.lru_cache(maxsize=16384)
 def first_word(line: bytes) -> bytes:
     """A line's first word in capitals: what letters, digits and `_` stand first."""
     found = re.match(rb"[ \t]*([A-Za-z0-9_]*)", line)
@@ -594,6 +595,7 @@ def hexadecimal(value: int, digits: int) -> str:
     return text if text[0].isdigit() else "0" + text
 
 
+@functools.lru_cache(maxsize=16384)
 def disassembled(code: bytes, at: int) -> tuple[str, int]:
     """The text of the instruction that bytes begin with, at an address, and its size."""
     keys = [bytes(code[:1]), bytes(code[:2]), bytes(code[:2] + code[3:4])]
