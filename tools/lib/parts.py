@@ -5,7 +5,7 @@
 A line of the table is a part: its name; how many rows have to pass at least, or `-` where it counts none; how many processors it has work
 for; the names of the parts that have to be done before it begins, or `-`; and its command. Parts begin in the order of the table, as many at
 a time as there are processors for; one that has work for 0 begins as soon as it may, beside all else. `ci` counts as one less than there
-are, so while it is under way, others are begun one at a time. A part whose number has a `!` plays in real time, and comes before others at
+are, at most, so while it is under way, others are begun, too. A part whose number has a `!` plays in real time, and comes before others at
 the processors; all others but `ci` are `nice`.
 
 {after-ci} in a command is `--beside-ci FILE` in a tree in which nothing is proved yet: FILE has what `rt ci` prints, as it comes. Elsewhere it is

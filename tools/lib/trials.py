@@ -39,7 +39,8 @@ def program_tools(program: pathlib.Path, is_slow: bool = False) -> dict[str, Job
 def library_tools(shared: pathlib.Path, environment: dict[str, str] | None = None) -> dict[str, Job]:
     """The tools with rows about the library, over one build of it, a shared object."""
     held_by = {"PAC_HOST": str(shared)} | (environment or {})
-    return {name: Job([sys.executable, CHECKS / name], held_by) for name in ("vectors", "boards", "screens")}
+    tools: dict[str, Words] = {"vectors": [], "boards": [], "screens": ["--library"]}
+    return {name: Job([sys.executable, CHECKS / name, *words], held_by) for name, words in tools.items()}
 
 
 def c_hosts(room: pathlib.Path, compiler: Words, linked: Words) -> dict[str, Job]:
