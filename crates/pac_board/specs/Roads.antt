@@ -37,8 +37,5 @@ GoesWatching to old limit stops met sink (Err refusal) new later = IsWayRefused 
 
 -- ---- the same, where nothing is watched
 
-abbrev pub HasGoneUntil : {S : Type 0} → (S → Output → S → Type 0) → BoardValue → ℕ → Option (List ℕ) → S → Option Stop → BoardValue → S → Type 0
-HasGoneUntil took old limit stops sink stop new later = HasGoneWatching took old limit stops None sink stop new later
-
 abbrev pub GoesUntil : {S E : Type 0} → Giving S → BoardValue → ℕ → Option (List ℕ) → S → Result (Option Stop) E → BoardValue → S → Type 0
 GoesUntil to old limit stops sink answer new later = GoesWatching to old limit stops None sink answer new later

@@ -12,7 +12,7 @@ use Rattle.pac_board_model.specs.Trace.{by_view}
 use Rattle.pac_map.specs.RomParts.{Parts}
 use Rattle.pac_machine.specs.declared.watch.Access.{Access}
 use Rattle.pac_machine.specs.declared.watch.Access.TheVariants as access
-use Rattle.pac_machine.specs.Trails.{stepped}
+use Rattle.pac_machine.specs.Standing.{stepped}
 
 -- A map has a byte for each address: 1 where writes to it are watched, 2 where reads of it are, and 3 where both are. Without a map nothing
 -- is watched.
