@@ -1,4 +1,4 @@
--- For proofs: what steps do at addresses that are watched: they write there, or they read there as data.
+-- Believed: what steps do at addresses that are watched: they write there, or they read there as data.
 use Rattle.std.specs.Prelude.{◌≡◌, ◌≤◌, ◌+◌, ◌/◌, ◌%◌, ◌==◌, ℕ, suc, Bool, false, List, [], ◌∷◌, ◌++◌, slice_index}
 use Rattle.std.specs.Prelude.{Option, None, Some, if◌then◌else◌}
 use Rattle.pac_cpu.specs.Action.{Action, Write, Output}
