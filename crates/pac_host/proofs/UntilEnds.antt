@@ -31,7 +31,7 @@ use Rattle.pac_host.specs.declared.live_until.Ended.{Ended}
 use Rattle.pac_host.specs.declared.live_until.Ended.TheVariants.{TimeOver, AtPlace, AtStop, BufferFull, AtAccess}
 use Rattle.pac_block.specs.declared.sounds.Sounds.{Sounds}
 use Rattle.pac_host.specs.declared.live_until.PacUntil.{PacUntil}
-use Rattle.pac_host.specs.LiveUntil.{EndsBy, HasComeTo, HasMet, IsGoneOn, PassesPlaces, WentBy}
+use Rattle.pac_host.specs.LiveUntil.{EndsBy, HasComeTo, HasMet, IsGoneOn, IsMap, PassesPlaces, WentBy, watch_map}
 use Rattle.pac_host.specs.LiveUntils.{IsGone, WalksOn, WalksBy}
 use Rattle.pac_block.specs.Sounding.{sounding_took, sounding_refused}
 use Rattle.pac_host.proofs.LiveSteps.{at-most-one}
@@ -301,7 +301,7 @@ module _ (stops marks : Option (List ℕ)) (limit : ℕ) (old : BoardValue) (sin
         walked AtStop walks =
             let gone = walks.0 in gone-by AtStop gone (come AtStop gone walks.1)
         walked AtAccess walks =
-            let gone = walks.0 in gone-by AtAccess gone (come AtAccess gone walks.1)
+            let gone = walks.0 in gone-by AtAccess gone (come AtAccess gone (walks.1, walks.2))
         walked BufferFull walks =
             let refused = walks.0 in
             let due = due_outputs old in
@@ -450,3 +450,13 @@ gone-same {here} {there} {marks} {map} {limit} {other} {old} {new} {samples} {af
     subst (λ (n : ℕ). IsGoneOn there map n old samples new after told) is
     (subst (λ (m : Option (List ℕ)). IsGoneOn there m limit old samples new after told) watched
     (subst (λ (h : ℕ → Bool). IsGoneOn h marks limit old samples new after told) set gone))
+
+-- the map that is handed in, where it has bytes
+pub some-map : (bytes : List ℕ) → IsMap bytes → length bytes ≢ 0 → (length bytes ≡ 65536) × (watch_map bytes ≡ Some bytes)
+some-map [] is some = absurd (some refl)
+some-map (first ∷ others) (inl none) some = absurd (some none)
+some-map (first ∷ others) (inr long) some = (long, refl)
+
+pub no-map : (bytes : List ℕ) → length bytes ≡ 0 → watch_map bytes ≡ None
+no-map [] none = refl
+no-map (first ∷ others) none = absurd (omega (arith, none))

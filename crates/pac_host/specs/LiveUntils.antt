@@ -1,6 +1,5 @@
 -- For proofs: the parts of a call that goes on until something ends it.
 use Rattle.std.specs.Prelude.{◌≡◌, ◌<◌, ◌≤◌, ℕ, ◌+◌, true, false, List, length, Option, None, Some, Result, Ok, Err}
-use Rattle.std.specs.Option.{option_copied}
 use Rattle.pac_board.specs.Access.{Access}
 use Rattle.pac_board.specs.Output.{Output}
 use Rattle.pac_board.specs.Roads.{HasGoneWatching}
@@ -16,7 +15,7 @@ use Rattle.pac_block.specs.declared.codes.HostFault.TheVariants.{WrongLength, To
 use Rattle.pac_host.specs.declared.live_until.Ended.{Ended}
 use Rattle.pac_host.specs.declared.live_until.Ended.TheVariants.{TimeOver, AtPlace, AtStop, BufferFull, AtAccess}
 use Rattle.pac_block.specs.declared.sounds.Sounds.{Sounds}
-use Rattle.pac_host.specs.LiveUntil.{IsMap, is_place, watch_map, WentBy, HasMet}
+use Rattle.pac_host.specs.LiveUntil.{IsMap, is_place, WentBy, HasMet}
 use Rattle.pac_block.specs.Sounding.{sounding_took, sounding_refused}
 
 -- the addresses of a set that is handed in
@@ -24,10 +23,10 @@ abbrev pub OpensSet : List ℕ → Result (Option (List ℕ)) HostFault → Type
 OpensSet places (Ok stops) = IsMap places × ((address : ℕ) → is_stop stops address ≡ is_place places address)
 OpensSet places (Err fault) = (IsMap places → ⊥) × (fault ≡ WrongLength)
 
--- a map of watched addresses that is handed in
-abbrev pub OpensMap : List ℕ → Result (Option (Shared (List ℕ))) HostFault → Type 0
-OpensMap bytes (Ok marks) = IsMap bytes × (option_copied marks ≡ watch_map bytes)
-OpensMap bytes (Err fault) = (IsMap bytes → ⊥) × (fault ≡ WrongLength)
+-- whether a map is handed in
+abbrev pub IsMapOrFault : List ℕ → Result (Unit {0}) HostFault → Type 0
+IsMapOrFault bytes (Ok done) = IsMap bytes
+IsMapOrFault bytes (Err fault) = (IsMap bytes → ⊥) × (fault ≡ WrongLength)
 
 -- the time at which so many T-states are over
 abbrev pub HasLimit : (time ticks : ℕ) → Result ℕ HostFault → Type 0

@@ -1,13 +1,12 @@
 //! A live board that goes on until its time is over, or an address, an access to a watched one, a stop or a full buffer ends it.
 
 ghost use Rattle.std.specs.Prelude.{◌≡◌, ◌≤◌, ◌+◌, ◌^◌, ◌&&◌, None, []};
-ghost use Rattle.std.specs.Option.{option_copied};
 ghost use Rattle.pac_board.specs.State.{due_outputs, latest, latest_end};
 ghost use Rattle.pac_board.specs.Stops.{is_stop};
 ghost use Rattle.pac_host.specs.LiveCodes as codes;
 ghost use Rattle.pac_host.specs.Live as live_specs;
 ghost use Rattle.pac_host.specs.LiveUntil as live_until;
-ghost use Rattle.pac_host.specs.LiveUntils.{OpensSet, OpensMap, HasLimit, WalksOn, IsGone};
+ghost use Rattle.pac_host.specs.LiveUntils.{OpensSet, IsMapOrFault, HasLimit, WalksOn, IsGone};
 
 use crate::live::PacLive;
 use crate::live_calls::check_open;
@@ -16,7 +15,7 @@ use pac_block::roms::chunk;
 use pac_block::sounds::Sounds;
 use pac_block::{HostFault, PacRan};
 use pac_board::{
-    Access, Board, LATEST, Marks, Stop, Stops, Trail, Unwatched, Watch, WatchedAddresses,
+    Access, Board, LATEST, Stop, Stops, Trail, Unwatched, Watch, WatchedAddresses,
 };
 use std::mem::forget;
 
@@ -136,17 +135,14 @@ fn stops_of(places: &[u8]) -> Result<Stops<'_>, HostFault>
     Ok(Stops::at(chunk(places, 0)))
 }
 
-/// The map of watched addresses that a host hands in, if it does.
-fn marks_of(watched: &[u8]) -> Result<Option<&Marks>, HostFault>
-    ensures { OpensMap watched.now result }
+/// Whether a host hands in a map: a byte for each address, or none.
+fn check_map(bytes: &[u8]) -> Result<(), HostFault>
+    ensures { IsMapOrFault bytes.now result }
 {
-    if watched.is_empty() {
-        return Ok(None);
+    if bytes.is_empty() || bytes.len() == 65_536 {
+        return Ok(());
     }
-    if watched.len() != 65_536 {
-        return Err(HostFault::WrongLength);
-    }
-    Ok(Some(chunk(watched, 0)))
+    Err(HostFault::WrongLength)
 }
 
 /// The time at which so many T-states are over from now.
@@ -258,27 +254,26 @@ fn go_told<W: Watch>(
     until_told(&ran, ended, watch.met(), board)
 }
 
-/// Goes on with a board, where a map of watched addresses is handed in or none.
+/// Goes on with a board, where a map of watched addresses is handed in or no byte.
 fn go_by(
     board: &mut Board,
     limit: u64,
     stops: &Stops<'_>,
-    marks: Option<&Marks>,
+    watched: &[u8],
     samples: &mut [i16],
 ) -> PacUntil
     requires limit { limit ≤ latest }
     requires later { board.old.state.now.time ≤ limit }
     requires soon { limit ≤ board.old.state.now.time + 2 ^ 32 }
-    ensures { live_until.IsGoneOn (is_stop stops.now) (option_copied marks) limit board.old samples.old board.new samples.new
-        result }
+    requires map { live_until.IsMap watched.now }
+    ensures { live_until.IsGoneOn (is_stop stops.now) (live_until.watch_map watched.now) limit board.old samples.old
+        board.new samples.new result }
 {
-    match marks {
-        None => go_told(board, limit, stops, &mut Unwatched, samples),
-        Some(marks) => {
-            let mut watch = WatchedAddresses::new(marks);
-            go_told(board, limit, stops, &mut watch, samples)
-        }
+    if watched.is_empty() {
+        return go_told(board, limit, stops, &mut Unwatched, samples);
     }
+    let mut watch = WatchedAddresses::new(chunk(watched, 0));
+    go_told(board, limit, stops, &mut watch, samples)
 }
 
 /// Goes on with a board for so many T-states, until an address of a set, an access to a watched address, a stop or a full buffer.
@@ -294,9 +289,9 @@ fn until_board(
         result board.old board.new }
 {
     let stops = stops_of(places)?;
-    let marks = marks_of(watched)?;
+    check_map(watched)?;
     let limit = limit_after(board.time(), ticks)?;
-    *ran = go_by(board, limit, &stops, marks, samples);
+    *ran = go_by(board, limit, &stops, watched, samples);
     Ok(())
 }
 
