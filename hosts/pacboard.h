@@ -175,10 +175,11 @@ typedef struct pac_live {
 
 /* Why pac_live_until ended. */
 enum {
-    PAC_UNTIL_TIME = 1,  /* the time is over */
-    PAC_UNTIL_PLACE = 2, /* the board is before an address of the set */
-    PAC_UNTIL_STOP = 3,  /* the board can't go on */
-    PAC_UNTIL_FULL = 4,  /* the buffer has no room for the next sample */
+    PAC_UNTIL_TIME = 1,   /* the time is over */
+    PAC_UNTIL_PLACE = 2,  /* the board is before an address of the set */
+    PAC_UNTIL_STOP = 3,   /* the board can't go on */
+    PAC_UNTIL_FULL = 4,   /* the buffer has no room for the next sample */
+    PAC_UNTIL_ACCESS = 5, /* a watched address was written to or read */
 };
 
 /* What a call of `pac_live_until` did. */
@@ -189,9 +190,13 @@ typedef struct pac_until {
     uint32_t why;      /* why it ended */
     uint32_t stop;     /* why the board stopped; 0 where it didn't, and then `bytes` and `vector` are 0 */
     uint16_t pc;       /* where the board is */
-    uint8_t bytes[4];  /* the bytes from there on at a stop */
+    uint16_t address;  /* the watched address that the last step wrote to or read */
+    uint8_t access;    /* what it did there: 1 where it wrote, 2 where it read, 0 where it did neither; then `address`, `before` and `after` are 0 */
+    uint8_t before;    /* what a read there gave right before a write; of a read what it gives now */
+    uint8_t after;     /* the byte that was written; of a read what it gives now */
     uint8_t vector;    /* the interrupt vector where that is the reason of a stop, and else 0 */
-    uint8_t zero;      /* 0 */
+    uint8_t bytes[4];  /* the bytes from `pc` on at a stop */
+    uint32_t zero;     /* 0 */
 } pac_until;
 
 /* The registers of a board by their names (UM0080, "Z80 CPU Register Description"). */
@@ -304,16 +309,18 @@ uint32_t pac_live_exec(pac_live *live, uint32_t microseconds, int16_t *samples, 
  * PAC_ROOM: room for 2 samples is always enough. */
 uint32_t pac_live_step(pac_live *live, int16_t *samples, size_t capacity, pac_ran *ran);
 
-/* Goes on until so many T-states are over from now, and at most 22 longer; or the board is before an address of the set; or it can't go on;
- * or the buffer has no room for the next sample. `ran->why` tells which of these: of the first two the address. `places` has 65,536 bytes,
- * one for each address, which isn't 0 where it is in the set; or none, and then no address is. Where there is time, one step at least is
- * done, so that the board goes on from an address that it is at. The samples go to the head of `samples`. What had no room stays due, in
- * the block, too, and the next call gives it first: that call then goes on as this one would have, and ends at once where the board is at
- * an address of the set. Without any room a board goes on up to the step that gives a sample, and then no further. What was asked in all
- * stays, so `pac_live_exec` goes on from there to the time that it would have gone to.
- * PAC_CLOSED. PAC_TIME: the time would pass 2^52 T-states. PAC_LENGTH: `places` has neither 65,536 bytes nor none. */
-uint32_t pac_live_until(pac_live *live, uint32_t ticks, const uint8_t *places, size_t places_length, int16_t *samples, size_t capacity,
-                        pac_until *ran);
+/* Goes on until so many T-states are over from now, and at most 22 longer; or the board is before an address of the set; or a step wrote to
+ * a watched address, or read there as data; or the board can't go on; or the buffer has no room for the next sample. `ran->why` tells which
+ * of these. `places` has 65,536 bytes, one for each address, which isn't 0 where it is in the set; or none, and then no address is.
+ * `watched` has 65,536 bytes, too: 1 where writes to the address are watched, also of the byte that is there, 2 where reads of it are, 3
+ * where both are; or none. A step that does both is told as a write. Addresses are as the program writes them: the mirrors of a cell are
+ * others. Where there is time, one step at least is done, so that the board goes on from an address that it is at. The samples go to the
+ * head of `samples`. What had no room stays due, in the block, too, and the next call gives it first: that call then goes on as this one
+ * would have, and ends at once where the board is at an address of the set. Without any room a board goes on up to the step that gives a
+ * sample, and then no further. What was asked in all stays, so `pac_live_exec` goes on from there to the time that it would have gone to.
+ * PAC_CLOSED. PAC_TIME: the time would pass 2^52 T-states. PAC_LENGTH: `places` or `watched` has neither 65,536 bytes nor none. */
+uint32_t pac_live_until(pac_live *live, uint32_t ticks, const uint8_t *places, size_t places_length, const uint8_t *watched,
+                        size_t watched_length, int16_t *samples, size_t capacity, pac_until *ran);
 
 /* Writes what the processor would read at as many addresses as `bytes` has room for, the first of which is `address`: as `pac_peek`.
  * PAC_CLOSED. */
@@ -431,10 +438,11 @@ static inline uint32_t pac_live_step_checked(pac_live *live, int16_t *samples, s
 }
 
 static inline uint32_t pac_live_until_checked(pac_live *live, uint32_t ticks, const uint8_t *places, size_t places_length,
-                                              int16_t *samples, size_t capacity, pac_until *ran)
+                                              const uint8_t *watched, size_t watched_length, int16_t *samples, size_t capacity,
+                                              pac_until *ran)
 {
-    return live && places && samples && ran ? pac_live_until(live, ticks, places, places_length, samples, capacity, ran)
-                                            : (uint32_t)PAC_NULL;
+    return live && places && watched && samples && ran ? pac_live_until(live, ticks, places, places_length, watched, watched_length, samples, capacity, ran)
+                                                       : (uint32_t)PAC_NULL;
 }
 
 static inline uint32_t pac_live_peek_checked(pac_live *live, uint16_t address, uint8_t *bytes, size_t bytes_length)
@@ -470,10 +478,10 @@ static inline uint32_t pac_live_load_checked(pac_live *live, const uint8_t *text
 #ifdef __cplusplus
 }
 static_assert(sizeof(pac_board) == PAC_BOARD_SIZE && sizeof(pac_ran) == 32 && sizeof(pac_registers) == 48 &&
-               sizeof(pac_until) == 32, "the library's layout");
+               sizeof(pac_until) == 40, "the library's layout");
 #else
 _Static_assert(sizeof(pac_board) == PAC_BOARD_SIZE && sizeof(pac_ran) == 32 && sizeof(pac_registers) == 48 &&
-               sizeof(pac_until) == 32, "the library's layout");
+               sizeof(pac_until) == 40, "the library's layout");
 #endif
 
 #endif

@@ -1,6 +1,6 @@
 /* Tries the calls of a live board: random lists of them, each made on a block of the same ROMs, too, with all answers and all bytes compared,
- * on several boards at once; single steps; stops at addresses and full buffers, by single steps of another live board; time that is cut; and
- * handles that aren't open.
+ * on several boards at once; single steps; stops at addresses, accesses and full buffers, by single steps of another live board; time that is
+ * cut; and handles that aren't open.
  *
  *   live ROMS
  *
@@ -9,6 +9,7 @@
  */
 #define _DEFAULT_SOURCE
 #include "../pacboard.h"
+#include "accesses.h"
 
 #include <pthread.h>
 #include <stdio.h>
@@ -32,6 +33,7 @@ enum {
     STEP_CALLS = 8, /* calls of a microsecond, in which a step of a block comes */
     PLACES = 65536, /* bytes of a set */
     STOPS = 19000,  /* at addresses of a set, at least */
+    ACCESSES = 4000, /* to watched addresses, of each kind, at least */
     CUTS = 60,      /* frames whose time is cut, of a list */
 };
 
@@ -47,11 +49,11 @@ typedef struct written {
 typedef struct pair {
     pac_live live, stepped;
     pac_board block, given, kept;
-    uint8_t roms[PAC_ROMS_SIZE], file[PAC_STATE_SIZE + 1], places[PLACES];
+    uint8_t roms[PAC_ROMS_SIZE], file[PAC_STATE_SIZE + 1], places[PLACES], watched[PLACES];
     written by_live, by_block;
     uint64_t random;
     long calls, answered[PAC_NULL], stopped[PAC_STOP_VECTOR + 1]; /* and how often each code was answered, and each stop was met */
-    long ended[PAC_UNTIL_FULL + 1];                               /* and how often a call ended for each reason */
+    long ended[PAC_UNTIL_ACCESS + 1], met[3];                     /* and how often a call ended for each reason, and by which access */
     int16_t late; /* a sample that had no room, and what is due then */
     uint8_t due;
     int passed, failed;
@@ -198,11 +200,64 @@ static int take_due(pair *it, size_t room, pac_until *told)
     return 1;
 }
 
+/* Whether a cell of an address keeps what is written there: RAM, of which 4800H to 4BFFH has none. */
+static int is_kept(uint16_t address)
+{
+    uint16_t place = address & 0x5FFF;
+    return place >= 0x4000 && place < 0x5000 && (place & 0xFC00) != 0x4800;
+}
+
+/* What the next step may do, by the registers and the bytes before it: its instruction's accesses or an acceptance's, with the bytes there. */
+typedef struct next_step {
+    pac_registers before;
+    uint8_t code[4], bytes[2], pushed[2];
+    accesses made;
+} next_step;
+
+static void look_ahead(pair *it, next_step *next)
+{
+    pac_live *live = &it->stepped;
+    pac_live_registers(live, &next->before), pac_live_peek(live, next->before.pc, next->code, sizeof next->code);
+    next->made = accesses_of(&next->before, next->code);
+    for (int at = 0; at < next->made.writes; at++)
+        pac_live_peek(live, next->made.written[at], next->bytes + at, 1);
+    for (int at = 0; at < 2; at++)
+        pac_live_peek(live, (uint16_t)(next->before.sp - 1 - at), next->pushed + at, 1);
+}
+
+/* What it did at watched addresses: the first write, or else the first read. */
+static void tell_access(pair *it, next_step *next, pac_until *told)
+{
+    pac_registers now;
+    pac_live_registers(&it->stepped, &now);
+    if (next->before.iff1 && !now.iff1 && next->code[0] != 0xF3) { /* (only DI and an acceptance clear it) */
+        pac_live_give(&it->stepped, &it->block);
+        next->made = acceptance_accesses(&next->before, it->block.bytes[PAC_AT_VECTOR]);
+        memcpy(next->bytes, next->pushed, sizeof next->bytes);
+    } else if (next->before.halted)
+        next->made = (accesses){0};
+    for (int at = 0; at < next->made.writes && told->access == 0; at++)
+        if (it->watched[next->made.written[at]] % 2 == 1) {
+            told->access = 1, told->address = next->made.written[at], told->before = next->bytes[at];
+            pac_live_peek(&it->stepped, told->address, &told->after, 1);
+            told->after = is_kept(told->address) ? told->after : it->by_live.until.after; /* what nothing keeps is taken as it is told */
+        }
+    for (int at = 0; at < next->made.reads && told->access == 0; at++)
+        if (it->watched[next->made.read[at]] / 2 % 2 == 1) {
+            told->access = 2, told->address = next->made.read[at];
+            pac_live_peek(&it->stepped, told->address, &told->before, 1);
+            told->after = told->before;
+        }
+}
+
 /* One step of the other live board. Where there is no room for its sample, what it gave is due in the block then. */
-static void step_until(pair *it, size_t room, pac_until *told)
+static void step_until(pair *it, size_t watched, size_t room, pac_until *told)
 {
     int16_t given[2];
     pac_ran part;
+    next_step next;
+    if (watched != 0)
+        look_ahead(it, &next);
     if (pac_live_step(&it->stepped, given, 2, &part) != PAC_DONE || part.samples > 1)
         told->why = PAC_NULL;
     else if (part.stop != PAC_GOES)
@@ -214,16 +269,20 @@ static void step_until(pair *it, size_t room, pac_until *told)
             it->by_block.samples[told->samples++] = given[0];
         told->pictures += part.pictures;
     }
+    if (watched != 0 && told->why != PAC_UNTIL_STOP)
+        tell_access(it, &next, told);
+    if (told->why == 0 && told->access != 0)
+        told->why = PAC_UNTIL_ACCESS;
 }
 
 /* Goes on with the block: what pac_live_until has to do, by single steps of the other live board. */
-static uint32_t until_block(pair *it, uint32_t ticks, size_t length, size_t room)
+static uint32_t until_block(pair *it, uint32_t ticks, size_t length, size_t watched, size_t room)
 {
     uint64_t begun = number(&it->block, PAC_AT_TIME, 8), limit = begun + ticks;
     int was_due = it->block.bytes[PAC_AT_DUE] != 0;
     pac_until told = {0};
     pac_registers now = {0};
-    if (length != 0 && length != PLACES)
+    if ((length != 0 && length != PLACES) || (watched != 0 && watched != PLACES))
         return PAC_LENGTH;
     if (limit > LATEST)
         return PAC_TIME;
@@ -233,7 +292,7 @@ static uint32_t until_block(pair *it, uint32_t ticks, size_t length, size_t room
         pac_live_registers(&it->stepped, &now);
         told.why = was_due && is_place(it, length, now.pc) ? PAC_UNTIL_PLACE : 0;
         while (told.why == 0 && now.time < limit) {
-            step_until(it, room, &told);
+            step_until(it, watched, room, &told);
             pac_live_registers(&it->stepped, &now);
             if (told.why == 0 && is_place(it, length, now.pc))
                 told.why = PAC_UNTIL_PLACE;
@@ -269,18 +328,32 @@ static void lay_places(pair *it)
         }
 }
 
+/* Lays a map of watched addresses: ports, work RAM, the whole, some anywhere, or none. */
+static void lay_watched(pair *it)
+{
+    static const uint16_t begins[] = {0x5000, 0x4C00, 0x4FF0, 0xC000, 0}, ends[] = {0x5100, 0x4E00, 0x5080, 0xC400, 0xFFFF};
+    uint32_t kind = below(it, 8), left = 1 + below(it, 300);
+    memset(it->watched, 0, PLACES);
+    for (uint32_t at = kind < 5 ? begins[kind] : 1; at <= (kind < 5 ? ends[kind] : 0u); at++)
+        it->watched[at] = (uint8_t)below(it, 8);
+    while (kind > 5 && left-- > 0)
+        it->watched[kind == 6 ? below(it, PLACES) : 0x4000 + below(it, 0x1000)] = (uint8_t)(1 + below(it, 255));
+}
+
 /* Goes on by some calls one after another, mostly with room enough and a set of the right length. */
 static void until_both(pair *it)
 {
     pac_live handle = it->live;
-    lay_places(it);
+    lay_places(it), lay_watched(it);
     for (uint32_t left = 1 + below(it, 16); left > 0 && number(&it->block, PAC_AT_TIME, 8) < MOST_ASKED * 3; left--) {
         size_t room = below(it, 4) != 0 ? ROOM : below(it, 6), length = below(it, 16) != 0 ? PLACES : below(it, 2) * below(it, PLACES + 2);
-        uint32_t ticks = below(it, 12) != 0 ? below(it, 1500) : below(it, 3) * below(it, 60000);
-        ticks = below(it, 200) != 0 ? ticks : UINT32_MAX;
-        uint32_t code = pac_live_until(&it->live, ticks, it->places, length, it->by_live.samples, room, &it->by_live.until);
-        compare(it, "pac_live_until", code, until_block(it, ticks, length, room), &handle);
-        it->ended[code == PAC_DONE ? it->by_live.until.why % (PAC_UNTIL_FULL + 1) : 0]++;
+        size_t watched = below(it, 3) == 0 ? PLACES : below(it, 40) != 0 ? 0 : below(it, PLACES + 2);
+        uint32_t ticks = below(it, 12) != 0 ? below(it, 1500) : below(it, 3) * below(it, watched != 0 ? 6000 : 60000);
+        ticks = below(it, 200) != 0 || watched != 0 ? ticks : UINT32_MAX;
+        pac_until *told = &it->by_live.until;
+        uint32_t code = pac_live_until(&it->live, ticks, it->places, length, it->watched, watched, it->by_live.samples, room, told);
+        compare(it, "pac_live_until", code, until_block(it, ticks, length, watched, room), &handle);
+        it->ended[code == PAC_DONE ? told->why % (PAC_UNTIL_ACCESS + 1) : 0]++, it->met[code == PAC_DONE ? told->access % 3 : 0]++;
     }
 }
 
@@ -496,7 +569,8 @@ static uint32_t part_of(pair *it, int16_t *samples, size_t room, uint32_t *left,
         *left -= asked;
         break;
     default:
-        code = pac_live_until(&it->live, below(it, 2500), it->places, below(it, 2) * PLACES, samples, below(it, 2) ? room : below(it, 40), &told);
+        code = pac_live_until(&it->live, below(it, 2500), it->places, below(it, 2) * PLACES, it->watched, below(it, 2) * PLACES, samples,
+                              below(it, 2) ? room : below(it, 40), &told);
     }
     *given = part.samples + told.samples;
     return code;
@@ -511,7 +585,7 @@ static void try_cuts(pair *it)
     pac_live handle = it->live;
     for (int frame = 1; frame <= CUTS; frame++) {
         uint32_t left = FRAME, given = 0, more = 0, code = PAC_DONE;
-        lay_places(it);
+        lay_places(it), lay_watched(it);
         while (code == PAC_DONE && now.time + 3000 < (uint64_t)frame * FRAME * 384 / 125 && below(it, 80) != 0) {
             code = part_of(it, it->by_live.samples + given, ROOM - given, &left, &more);
             given += code == PAC_DONE ? more : 0;
@@ -583,8 +657,8 @@ static void try_closed(pair *it, const char *what, pac_live live)
     is_so &= pac_live_exec(&live, FRAME, it->by_live.samples, ROOM, &it->by_live.ran) == PAC_CLOSED;
     is_so &= pac_live_exec(&live, FRAME, it->by_live.samples, 0, &it->by_live.ran) == PAC_CLOSED;
     is_so &= pac_live_step(&live, it->by_live.samples, ROOM, &it->by_live.ran) == PAC_CLOSED;
-    is_so &= pac_live_until(&live, 1, it->places, PLACES, it->by_live.samples, ROOM, &it->by_live.until) == PAC_CLOSED;
-    is_so &= pac_live_until(&live, UINT32_MAX, it->places, 1, it->by_live.samples, 0, &it->by_live.until) == PAC_CLOSED;
+    is_so &= pac_live_until(&live, 1, it->places, PLACES, it->watched, 0, it->by_live.samples, ROOM, &it->by_live.until) == PAC_CLOSED;
+    is_so &= pac_live_until(&live, UINT32_MAX, it->places, 1, it->watched, 1, it->by_live.samples, 0, &it->by_live.until) == PAC_CLOSED;
     is_so &= pac_live_peek(&live, 0, it->by_live.bytes, PEEKED) == PAC_CLOSED;
     is_so &= pac_live_draw(&live, PAC_RGBA, it->by_live.rgba, PAC_RGBA_SIZE) == PAC_CLOSED && pac_live_draw(&live, PAC_BGRA, it->by_live.rgba, 1) == PAC_CLOSED;
     is_so &= pac_live_lines(&live, it->by_live.lines, PAC_LINES_SIZE, it->by_live.palette, PAC_PALETTE_SIZE) == PAC_CLOSED;
@@ -633,8 +707,9 @@ static void try_null(pair *it)
     is_so &= pac_live_hold_checked(NULL, 0, 0) == PAC_NULL && pac_live_registers_checked(&it->live, NULL) == PAC_NULL;
     is_so &= pac_live_exec_checked(&it->live, 1, it->by_live.samples, ROOM, NULL) == PAC_NULL;
     is_so &= pac_live_step_checked(&it->live, NULL, ROOM, &it->by_live.ran) == PAC_NULL;
-    is_so &= pac_live_until_checked(&it->live, 1, NULL, 0, it->by_live.samples, ROOM, &it->by_live.until) == PAC_NULL;
-    is_so &= pac_live_until_checked(&it->live, 1, it->places, 0, it->by_live.samples, ROOM, NULL) == PAC_NULL;
+    is_so &= pac_live_until_checked(&it->live, 1, NULL, 0, it->watched, 0, it->by_live.samples, ROOM, &it->by_live.until) == PAC_NULL;
+    is_so &= pac_live_until_checked(&it->live, 1, it->places, 0, NULL, 0, it->by_live.samples, ROOM, &it->by_live.until) == PAC_NULL;
+    is_so &= pac_live_until_checked(&it->live, 1, it->places, 0, it->watched, 0, it->by_live.samples, ROOM, NULL) == PAC_NULL;
     is_so &= pac_live_peek_checked(&it->live, 0, NULL, 0) == PAC_NULL && pac_live_draw_checked(&it->live, PAC_BGRA, NULL, PAC_RGBA_SIZE) == PAC_NULL;
     is_so &= pac_live_lines_checked(&it->live, it->by_live.lines, PAC_LINES_SIZE, NULL, PAC_PALETTE_SIZE) == PAC_NULL;
     is_so &= pac_live_save_checked(&it->live, NULL, 0) == PAC_NULL && pac_live_load_checked(&it->live, NULL, 0) == PAC_NULL;
@@ -658,7 +733,13 @@ static void try_answers(void)
             stopped += pairs[thread]->stopped[stop];
         row(pairs[0], "a stop that is met", stopped >= LEAST);
     }
-    for (int why = PAC_UNTIL_TIME; why <= PAC_UNTIL_FULL; why++) {
+    for (int access = 1; access <= 2; access++) {
+        long met = 0;
+        for (int thread = 0; thread < THREADS; thread++)
+            met += pairs[thread]->met[access];
+        row(pairs[0], "an access that is met", met >= ACCESSES);
+    }
+    for (int why = PAC_UNTIL_TIME; why <= PAC_UNTIL_ACCESS; why++) {
         long ended = 0;
         for (int thread = 0; thread < THREADS; thread++)
             ended += pairs[thread]->ended[why];

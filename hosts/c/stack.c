@@ -26,7 +26,7 @@ static uint8_t roms[PAC_ROMS_SIZE] = {0x3E, 0x42, 0x32, 0x40, 0x40, 0x76}; /* LD
 static uint8_t rgba[PAC_RGBA_SIZE], text[PAC_STATE_SIZE], old_text[PAC_STATE_SIZE];
 static int16_t samples[PAC_FRAME_SAMPLES + 2];
 static uint8_t none[PAC_ROMS_SIZE]; /* each byte EDH: no instruction */
-static uint8_t places[65536];
+static uint8_t places[65536], watched[65536];
 static pac_live live;
 static uint32_t code;
 static int passed, failed;
@@ -144,7 +144,7 @@ static void *live_step(void *unused)
 static void *live_until(void *unused)
 {
     pac_until told;
-    code = pac_live_until(&live, 50688, places, sizeof places, samples, PAC_FRAME_SAMPLES + 2, &told);
+    code = pac_live_until(&live, 50688, places, sizeof places, watched, sizeof watched, samples, PAC_FRAME_SAMPLES + 2, &told);
     return unused;
 }
 

@@ -45,7 +45,7 @@ pub fn check(fields: &Fields, microseconds: u32, room: usize) -> Result<(), Host
 }
 
 /// The least microseconds that, asked in all, leave time for a step at this time.
-fn least_asked(time: u64) -> u64
+pub fn least_asked(time: u64) -> u64
     requires { time ≤ latest_end }
     ensures value { result ≡ host.least_asked time }
     ensures least { (asked : ℕ) → (time < time_of asked) ↔ (result ≤ asked) }

@@ -1,6 +1,6 @@
 -- A host's calls are acts over the history.
 use Rattle.std.proofs.Common.{◌≡◌, ℕ, zero, suc, ◌+◌, ◌-◌, Bool, true, false, List, [], ◌∷◌, ◌++◌, map, replicate, slice_index_or, Result}
-use Rattle.std.proofs.Common.{◌≤◌, nat_le, ◌&&◌, length, take, drop, Option}
+use Rattle.std.proofs.Common.{◌≤◌, nat_le, ◌&&◌, length, take, drop, Option, None}
 use Rattle.std.proofs.Common.{Ok, Err, ◌⊎◌, inl, inr, refl, sym, ap, subst, ◌∙◌, append_assoc, arith}
 use Rattle.std.proofs.Math.Seq.{take-append_seam, drop-append_seam}
 use Rattle.std.proofs.lemmas.Bool.Decides.{nat_tests}
@@ -32,12 +32,12 @@ use Rattle.pac_board.specs.Calls.{next_of}
 use Rattle.pac_board.specs.Calls.{outputs_given}
 use Rattle.pac_board.specs.Calls.{outputs_in, board_after_step}
 use Rattle.pac_board.specs.Calls.{with_due}
-use Rattle.pac_board.specs.Hosts.{Call, Exec, StepOnce, Advance, Offer, GoTo, GoOn, GoWatched, CountAsked, Reset, InputSet, InputClear, Snapshot}
-use Rattle.pac_board.specs.Hosts.{Restore, PutFields, PutRoms, HostedBoard}
-use Rattle.pac_board.specs.Hosts.{run_took, refused_took, step_took, offer_took, way_took, road_took, watched_took, IsCall, acts_of, stays_within, steps_between}
+use Rattle.pac_board.specs.Hosts.{Call, Exec, StepOnce, Advance, Offer, GoTo, GoOn, GoWatched, CountAsked, ForgetAsked, Reset, InputSet, InputClear}
+use Rattle.pac_board.specs.Hosts.{Snapshot, Restore, PutFields, PutRoms, HostedBoard}
+use Rattle.pac_board.specs.Hosts.{run_took, refused_took, step_took, offer_took, way_took, watched_took, IsCall, acts_of, stays_within, steps_between}
 use Rattle.pac_board.specs.Hosts.{AreCalls, acts_over, goes_back, given_over, history, CallsAreOfTheHistory, ListsAreCut, RestoresGiveAgain}
-use Rattle.pac_board.specs.Roads.{GoesUntil, GoesWatching}
-use Rattle.pac_machine.specs.declared.watch.WatchedWrite.{WatchedWrite}
+use Rattle.pac_board.specs.Roads.{GoesWatching}
+use Rattle.pac_machine.specs.declared.watch.Access.{Access}
 use Rattle.pac_board.specs.Turns.{GoesTo, way, way_at}
 
 -- ---- acts, one after another
@@ -293,15 +293,7 @@ module _ {S : Type 0} (to : Giving S) where
       (ap (λ (b : BoardValue). b.state.now) goes.board)
       (ap (λ due. due ++ (way_at old limit goes.steps).outputs) nothing ∙ goes.cut.parts)
 
-  road-acts : {E : Type 0} (old : BoardValue) (limit : ℕ) (stops : Option (List ℕ)) (sink : S) (answer : Result (Option Stop) E)
-      (new : BoardValue) (later : S) → (goes : GoesUntil to old limit stops sink answer new later) → due_outputs old ≡ []
-      → IsActed old (steps_on old.state.now new.state.now) (road_took to old limit stops sink answer new later goes) new
-  road-acts {E} old limit stops sink (Ok stop) new later goes nothing =
-      way-acts {E = E} old goes.end sink (Ok stop) new later goes.gone nothing
-  road-acts {E} old limit stops sink (Err refusal) new later goes nothing =
-      way-acts {E = E} old limit sink (Err refusal) new later goes nothing
-
-  watched-acts : {E : Type 0} (old : BoardValue) (limit : ℕ) (stops : Option (List ℕ)) (met : Option WatchedWrite) (sink : S)
+  watched-acts : {E : Type 0} (old : BoardValue) (limit : ℕ) (stops : Option (List ℕ)) (met : Option Access) (sink : S)
       (answer : Result (Option Stop) E) (new : BoardValue) (later : S)
       → (goes : GoesWatching to old limit stops met sink answer new later) → due_outputs old ≡ []
       → IsActed old (steps_on old.state.now new.state.now) (watched_took to old limit stops met sink answer new later goes) new
@@ -411,12 +403,14 @@ module _ (earlier : List BoardState) where
     call-acts (GoOn limit stops) old own taken new own_is within done =
         let call = done.0 in
         with-kept old own _ _ _ taken new own_is done.2 call.taken_is
-        (road-acts to old.board limit stops call.sink call.answer new.board call.later call.done done.1)
+        (watched-acts to old.board limit stops None call.sink call.answer new.board call.later call.done done.1)
     call-acts (GoWatched limit stops met) old own taken new own_is within done =
         let call = done.0 in
         with-kept old own _ _ _ taken new own_is done.2 call.taken_is
         (watched-acts to old.board limit stops met call.sink call.answer new.board call.later call.done done.1)
     call-acts (CountAsked microseconds) old own taken new own_is within done =
+        silent-acts old.board own own _ new _ _ taken done own_is refl (λ before. refl) (λ _. refl)
+    call-acts (ForgetAsked most) old own taken new own_is within done =
         silent-acts old.board own own _ new _ _ taken done own_is refl (λ before. refl) (λ _. refl)
     call-acts Reset old own taken new own_is within done =
         silent-acts old.board own own _ new _ _ taken done own_is refl (λ before. refl) (λ _. refl)

@@ -1,5 +1,5 @@
--- A board's loop ends at its limit, or earlier, where it is to stop or has met a write that is watched. Then its walk is the one to that
--- time.
+-- A board's loop ends at its limit, or earlier, where it is to stop, or where a step did something at an address that is watched. Then its
+-- walk is the one to that time.
 use Rattle.std.proofs.Common.{◌≡◌, ℕ, zero, suc, ◌+◌, ◌<◌, ◌≤◌, nat_lt, Bool, true, false, List, Option, None, Some, Result, Ok, Err}
 use Rattle.std.proofs.Common.{is_some, refl, sym, ap, subst, ◌∙◌, arith}
 use Rattle.std.proofs.lemmas.Bool.Decides.{nat_tests}
@@ -13,13 +13,13 @@ use Rattle.pac_board_model.specs.Walk.{Walk, walk, walk_onward, walk_after_step}
 use Rattle.pac_board_model.specs.WalkLaws.{has_ended}
 use Rattle.pac_board_model.proofs.Walks.{not-both, going-before, going-steps, late-has-ended, open-goes-on, step-timely}
 use Rattle.pac_machine.specs.declared.trail.PastStep.{PastStep}
-use Rattle.pac_machine.specs.declared.watch.WatchedWrite.{WatchedWrite}
+use Rattle.pac_machine.specs.declared.watch.Access.{Access}
 use Rattle.pac_machine.specs.Watches.{IsWatched}
 use Rattle.pac_machine.specs.Stops.{is_stop}
 use Rattle.pac_machine.specs.StopsProofs.{PassesBy}
 use Rattle.pac_machine.proofs.Passing.{passes-more}
-use Rattle.pac_machine.proofs.Watched.{watched-more}
-use Rattle.pac_board.specs.Roads.{GoesUntil, IsHeld, HasGoneWatching, GoesWatching}
+use Rattle.pac_machine.proofs.Watched.{watched-first, watched-more}
+use Rattle.pac_board.specs.Roads.{IsHeld, HasGoneWatching, GoesWatching}
 use Rattle.pac_board.specs.RoadsProofs.{BoardPasses, BoardWatched}
 use Rattle.pac_board.specs.Sinks.{TookAll}
 use Rattle.pac_board.specs.SinksLaws.{Giving}
@@ -27,6 +27,7 @@ use Rattle.pac_board.specs.State.{BoardValue}
 use Rattle.pac_board.specs.Stretches.{IsTold}
 use Rattle.pac_board.specs.Turns.{way_at, board_after_walk, HasGone, GoesTo}
 use Rattle.pac_board.proofs.Stretches.{has-no-stop}
+use Rattle.pac_board.proofs.Told.{told-more}
 use Rattle.pac_board.proofs.Turns.{IsUnderway, ended, time-is-over}
 
 -- ---- a walk that is open at a time is also the walk to that time
@@ -77,7 +78,7 @@ module _ {Board : Type 0} (next : Moment Board → Next Board) (limit : ℕ) (ti
 
 -- one that meets a stop, or has no time left, ends at its limit
 pub gone-to-limit : {S : Type 0} {took : S → Output → S → Type 0} {start : BoardValue} {limit : ℕ} {stops : Option (List ℕ)} {sink : S}
-    {stop : Option Stop} {new : BoardValue} {later : S} (met : Option WatchedWrite) → HasGone took start limit sink stop new later
+    {stop : Option Stop} {new : BoardValue} {later : S} (met : Option Access) → HasGone took start limit sink stop new later
     → HasGoneWatching took start limit stops met sink stop new later
 gone-to-limit {limit = limit} met gone =
     record { end = limit; within = omega arith; some = λ early. early; gone = gone; early = λ less. absurd (omega arith) }
@@ -99,7 +100,7 @@ module _ {S : Type 0} {took : S → Output → S → Type 0} {start : BoardValue
       (subst (λ (v : Walk _). TookAll took sink v.outputs taker) (sym same) under.sink_is))
 
   -- one that is held there, or has no time left, ends there
-  gone-there : (stops : Option (List ℕ)) (met : Option WatchedWrite) → start.state.now.time < board.state.now.time
+  gone-there : (stops : Option (List ℕ)) (met : Option Access) → start.state.now.time < board.state.now.time
       → IsHeld stops board.state.now.time met None board → HasGoneWatching took start limit stops met sink None board taker
   gone-there stops met later held = here (nat_lt board.state.now.time limit) refl
     where
@@ -116,27 +117,19 @@ module _ {S : Type 0} {took : S → Output → S → Type 0} {start : BoardValue
       here false e = gone-to-limit met (time-is-over under (grind (arith, nat_tests)))
 
   -- one that stands where it is to stop
-  pub gone-to-stop : (stops : Option (List ℕ)) (met : Option WatchedWrite) → met ≡ None → start.state.now.time < board.state.now.time
+  pub gone-to-stop : (stops : Option (List ℕ)) (met : Option Access) → met ≡ None → start.state.now.time < board.state.now.time
       → is_stop stops board.state.now.regs.pc ≡ true → HasGoneWatching took start limit stops met sink None board taker
   gone-to-stop stops met none later stands =
-      subst (λ (met : Option WatchedWrite). HasGoneWatching took start limit stops met sink None board taker) (sym none)
+      subst (λ (met : Option Access). HasGoneWatching took start limit stops met sink None board taker) (sym none)
       (gone-there stops None later (record { none = refl; time_is = refl; here = stands }))
 
-  -- one that has met a write that is watched
-  pub gone-to-write : (stops : Option (List ℕ)) (met : Option WatchedWrite) → is_some met ≡ true
+  -- one whose last step did something at an address that is watched
+  pub gone-to-access : (stops : Option (List ℕ)) (met : Option Access) → is_some met ≡ true
       → start.state.now.time < board.state.now.time → HasGoneWatching took start limit stops met sink None board taker
-  gone-to-write stops None some later = not-both (sym some)
-  gone-to-write stops (Some write) some later = gone-there stops (Some write) later (refl, refl)
+  gone-to-access stops None some later = not-both (sym some)
+  gone-to-access stops (Some access) some later = gone-there stops (Some access) later (refl, refl)
 
--- where nothing is watched it ends at such an address
-pub goes-unwatched : {S E : Type 0} (to : Giving S) (start : BoardValue) (limit : ℕ) (stops : Option (List ℕ)) (sink : S)
-    (answer : Result (Option Stop) E) (new : BoardValue) (later : S) → GoesWatching to start limit stops None sink answer new later
-    → GoesUntil to start limit stops sink answer new later
-goes-unwatched to start limit stops sink (Ok stop) new later gone =
-    record { end = gone.end; within = gone.within; some = gone.some; gone = gone.gone; early = gone.early }
-goes-unwatched to start limit stops sink (Err refusal) new later gone = gone
-
--- and without such addresses at its limit alone
+-- where nothing is watched and there are no such addresses, it ends at its limit alone
 gone-free : {S : Type 0} {took : S → Output → S → Type 0} {start : BoardValue} {limit : ℕ} {sink : S} {stop : Option Stop}
     {new : BoardValue} {later : S} → HasGoneWatching took start limit None None sink stop new later
     → HasGone took start limit sink stop new later
@@ -156,22 +149,39 @@ goes-free to start limit stops sink (Ok stop) new later none gone =
     gone-free (subst (λ (stops : Option (List ℕ)). HasGoneWatching to.took start limit stops None sink stop new later) none gone)
 goes-free to start limit stops sink (Err refusal) new later none gone = gone
 
--- ---- what is passed by
+-- ---- what its steps passed by
+
+-- what a loop says of its steps: they are told, they pass by the addresses where they are to stop, and what they did at those that are watched
+pub record HasPassed (limit : ℕ) (stops marks : Option (List ℕ)) (old new : BoardValue) (met : Option Access)
+    (first after : Option (List PastStep))
+    : Type 0 where
+  pub told : IsTold old limit new first after
+  pub passes : BoardPasses stops old new
+  pub watched : BoardWatched marks old new met
+
+-- without a step they did nothing there
+pub met-nothing : (marks : Option (List ℕ)) (old new : BoardValue) (met : Option Access) → new.state.now.steps ≡ old.state.now.steps
+    → met ≡ None → BoardWatched marks old new met
+met-nothing marks old new met steps none =
+    subst (λ (met : Option Access). BoardWatched marks old new met) (sym none)
+    (watched-first old.set marks (step (by_view old.set)) old.state.now new.state.now.steps steps)
 
 -- a stretch after others
-pub passes-further : (old mid new : BoardValue) (limit : ℕ) (stops : Option (List ℕ)) (told between : Option (List PastStep))
-    → mid.set ≡ old.set → IsTold old limit mid told between
-    → PassesBy (step (by_view old.set)) stops old.state.now (mid.state.now.steps + 1) → BoardPasses stops mid new
-    → BoardPasses stops old new
-passes-further old mid new limit stops told between set one passed more =
-    passes-more (step (by_view old.set)) stops old.state.now new.state.now.steps one passed
-    (subst (λ (set : Parts). PassesBy (step (by_view set)) stops mid.state.now new.state.now.steps) set more)
-
-pub watched-further : (old mid new : BoardValue) (limit : ℕ) (marks : Option (List ℕ)) (met : Option WatchedWrite)
-    (told between after : Option (List PastStep)) → mid.set ≡ old.set → IsTold old limit mid told between
-    → BoardWatched marks old mid None → IsTold mid limit new between after → BoardWatched marks mid new met
-    → BoardWatched marks old new met
-watched-further old mid new limit marks met told between after set one watched two more =
+pub passed-further : (old mid new : BoardValue) (limit : ℕ) (stops marks : Option (List ℕ)) {marks_there : Option (List ℕ)}
+    {met : Option Access} {told between after : Option (List PastStep)} → mid.set ≡ old.set → marks_there ≡ marks → IsTold old limit mid told between
+    → PassesBy (step (by_view old.set)) stops old.state.now (mid.state.now.steps + 1) → BoardWatched marks old mid None
+    → IsTold mid limit new between after → BoardPasses stops mid new → BoardWatched marks_there mid new met
+    → HasPassed limit stops marks old new met told after
+passed-further old mid new limit stops marks {marks_there} {met} {told} {between} {after} set same one passed quiet two passes
+    watched =
     let so_many = two.steps in
-    watched-more old.set marks (step (by_view old.set)) old.state.now new.state.now.steps met one watched (omega arith)
-    (subst (λ (set : Parts). IsWatched set marks (step (by_view set)) mid.state.now new.state.now.steps met) set more)
+    record {
+      told = told-more old mid new limit told between after set one two;
+      passes =
+          passes-more (step (by_view old.set)) stops old.state.now new.state.now.steps one passed
+          (subst (λ (set : Parts). PassesBy (step (by_view set)) stops mid.state.now new.state.now.steps) set passes);
+      watched =
+          watched-more old.set marks (step (by_view old.set)) old.state.now new.state.now.steps met one quiet (omega arith)
+          (subst (λ (set : Parts). IsWatched set marks (step (by_view set)) mid.state.now new.state.now.steps met) set
+          (subst (λ (marks : Option (List ℕ)). BoardWatched marks mid new met) same watched));
+    }

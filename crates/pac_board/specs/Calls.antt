@@ -4,7 +4,7 @@ use Rattle.pac_board_model.specs.BoardView.{BoardView}
 use Rattle.pac_board_model.specs.Output.{Output}
 use Rattle.pac_board_model.specs.Step.{step}
 use Rattle.pac_board_model.specs.Trace.{by_view}
-use Rattle.pac_board_model.specs.Walk.{Walk, walk_to}
+use Rattle.pac_board_model.specs.Walk.{Walk, walk, walk_to}
 pub use Rattle.pac_machine.specs.Standing.{next_from_moment}
 pub use Rattle.pac_machine.specs.StandingProofs.{now_after}
 use Rattle.pac_board.specs.State.{BoardValue, due_outputs, nothing_due}
@@ -13,18 +13,27 @@ use Rattle.pac_board_model.specs.Step.{Next, Goes, Ends}
 use Rattle.std.specs.Prelude.{[]}
 use Rattle.pac_machine.specs.declared.due.Due.{Due}
 
--- ---- one step
+-- ---- the way of a board
 
--- ---- offering what is due
+-- its walk up to a time: after so many tries, and to its end
+abbrev pub way_at : BoardValue → ℕ → ℕ → Walk BoardView
+way_at board limit tries = walk (step (by_view board.set)) limit board.state.now tries
 
--- ---- one step whose outputs become due
+abbrev pub way : BoardValue → ℕ → Walk BoardView
+way board limit = walk_to (step (by_view board.set)) limit board.state.now
 
--- ---- what is due, and then one step
+-- the board where a walk has brought it, nothing being due
+abbrev pub board_after_walk : BoardValue → Walk BoardView → BoardValue
+board_after_walk board walked = record {
+  set = board.set;
+  state = record { now = walked.now; asked = board.state.asked; due = nothing_due };
+  made = steps_counted board.made (walked.now.steps - board.state.now.steps);
+}
 
 -- ---- steps for so many microseconds
 
 abbrev pub course : BoardValue → ℕ → Walk BoardView
-course board microseconds = walk_to (step (by_view board.set)) (time_of (board.state.asked + microseconds)) board.state.now
+course board microseconds = way board (time_of (board.state.asked + microseconds))
 
 -- what a call for so many microseconds offers in all: what was due, and what its steps give
 abbrev pub outputs_given : BoardValue → ℕ → List Output
@@ -45,6 +54,8 @@ board_after_run board microseconds = board_after_course board microseconds (cour
 -- the T-states that a call for so many microseconds takes
 abbrev pub run_ticks : BoardValue → ℕ → ℕ
 run_ticks board microseconds = (board_after_run board microseconds).state.now.time - board.state.now.time
+
+-- ---- one step
 
 -- what the next step of a board comes to
 abbrev pub next_of : BoardValue → Next BoardView

@@ -1,6 +1,6 @@
 -- Law: what is proved of the definitions of Calls.antt.
 use Rattle.pac_board.specs.State.{BoardValue, due_outputs, nothing_due, latest, time_of, most_asked}
-use Rattle.pac_board_model.specs.Step.{Next, Goes, Ends, step}
+use Rattle.pac_board_model.specs.Step.{Next, Goes, Ends}
 use Rattle.pac_board_model.specs.BoardView.{BoardView}
 use Rattle.std.specs.Prelude.{[], ℕ, ◌-◌, ◌≡◌, Result, Ok, Err, ◌<◌, ◌≢◌, ◌≤◌, ◌++◌, ◌⊎◌, ◌+◌, suc}
 use Rattle.pac_board_model.specs.Output.{Output}
@@ -13,10 +13,9 @@ use Rattle.pac_board.specs.declared.fault.Idle.TheVariants.{OutputsDue, TimeIsOv
 use mathlib.Core.List.{IsPrefix}
 use Rattle.pac_board.specs.declared.fault.Fault.{Fault}
 use Rattle.pac_board.specs.declared.fault.Fault.TheVariants.{TooFar, Refused}
-use Rattle.pac_board_model.specs.Walk.{Walk, walk}
-use Rattle.pac_board_model.specs.Trace.{by_view}
+use Rattle.pac_board_model.specs.Walk.{Walk}
 use Rattle.pac_board.specs.declared.exec.Ran.{Ran}
-use Rattle.pac_board.specs.Calls.{board_after_run, outputs_given, course, board_after_course}
+use Rattle.pac_board.specs.Calls.{board_after_run, outputs_given, course, board_after_course, way_at}
 use Rattle.pac_board.specs.Calls.{next_of, with_due, board_after_step, outputs_in}
 
 -- the answer to whoever asked for the step, at this time
@@ -80,7 +79,7 @@ StepsOnce to old sink (Err Refused) new later =
 -- the walk that a call for so many microseconds makes: after so many tries, and to its end
 abbrev pub course_at : BoardValue → ℕ → ℕ → Walk BoardView
 course_at board microseconds tries =
-    walk (step (by_view board.set)) (time_of (board.state.asked + microseconds)) board.state.now tries
+    way_at board (time_of (board.state.asked + microseconds)) tries
 
 -- a call for so many microseconds came to its end: by the time, or by a stop
 pub record HasRun {S : Type 0} (took : S → Output → S → Type 0) (old : BoardValue) (microseconds : ℕ) (sink : S) (answer : Ran)

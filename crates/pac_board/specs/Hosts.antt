@@ -1,7 +1,7 @@
 -- Law: a host's calls on one board, one after another, whatever its sinks take and refuse, each of which does what
 -- its contract says. Over the history they are acts, and the board stands where these acts bring it.
 use Rattle.std.specs.Prelude.{◌≡◌, ◌-◌, ℕ, nat_le, Bool, true, false, ◌&&◌, List, [], ◌∷◌, ◌++◌, map, replicate, length, take, drop}
-use Rattle.std.specs.Prelude.{slice_index_or, Option, Result, Ok, Err, ◌⊎◌}
+use Rattle.std.specs.Prelude.{slice_index_or, Option, None, Result, Ok, Err, ◌⊎◌}
 use Rattle.std.proofs.Common.{inl, inr}
 use Rattle.pac_cpu.specs.PlacedItems.{Item, AllLie}
 use Rattle.pac_cpu.specs.declared.once.Once.{Once}
@@ -27,9 +27,9 @@ use Rattle.pac_board.specs.declared.sink.Refused as sinks
 use Rattle.pac_board.specs.SinksLaws.{Giving}
 use Rattle.pac_board.specs.State.{BoardValue, BoardState, due_outputs, board_after_reset, board_with_inputs}
 use Rattle.pac_board.specs.StateLaws.{restored_board}
-use Rattle.pac_board.specs.StateLaws.{with_more_asked}
+use Rattle.pac_board.specs.StateLaws.{with_more_asked, with_asked_at_most}
 use Rattle.pac_board.specs.Roads.{GoesUntil, GoesWatching}
-use Rattle.pac_machine.specs.declared.watch.WatchedWrite.{WatchedWrite}
+use Rattle.pac_machine.specs.declared.watch.Access.{Access}
 use Rattle.pac_board.specs.Turns.{GoesTo, way}
 use Rattle.pac_board.specs.CallsLaws.{Executes, StepsOnce, Offers, Advances, IsOfferRefused, IsStepRefused}
 use Rattle.pac_board.specs.Calls.{next_of, outputs_in}
@@ -44,9 +44,10 @@ pub data Call : Type 0 where
   GoTo : (limit : ℕ) → Call
   -- `go`, which may stop before an address of a map
   GoOn : (limit : ℕ) → (stops : Option (List ℕ)) → Call
-  -- `go_watched`, which may also stop after a write that is watched
-  GoWatched : (limit : ℕ) → (stops : Option (List ℕ)) → (met : Option WatchedWrite) → Call
+  -- `go_watched`, which may also stop after a step that did something at an address that is watched
+  GoWatched : (limit : ℕ) → (stops : Option (List ℕ)) → (met : Option Access) → Call
   CountAsked : (microseconds : ℕ) → Call
+  ForgetAsked : (most : ℕ) → Call
   Reset : Call
   InputSet : (mask : ℕ) → Call
   InputClear : (mask : ℕ) → Call
@@ -92,12 +93,7 @@ abbrev pub way_took : {S E : Type 0} (to : Giving S) (old : BoardValue) (limit :
 way_took to old limit sink (Ok stop) new later goes = (way old limit).outputs
 way_took to old limit sink (Err refusal) new later goes = goes.cut.taken
 
-abbrev pub road_took : {S E : Type 0} (to : Giving S) (old : BoardValue) (limit : ℕ) (stops : Option (List ℕ)) (sink : S)
-    (answer : Result (Option Stop) E) (new : BoardValue) (later : S) → GoesUntil to old limit stops sink answer new later → List Output
-road_took to old limit stops sink (Ok stop) new later goes = (way old goes.end).outputs
-road_took to old limit stops sink (Err refusal) new later goes = goes.cut.taken
-
-abbrev pub watched_took : {S E : Type 0} (to : Giving S) (old : BoardValue) (limit : ℕ) (stops : Option (List ℕ)) (met : Option WatchedWrite)
+abbrev pub watched_took : {S E : Type 0} (to : Giving S) (old : BoardValue) (limit : ℕ) (stops : Option (List ℕ)) (met : Option Access)
     (sink : S) (answer : Result (Option Stop) E) (new : BoardValue) (later : S) → GoesWatching to old limit stops met sink answer new later
     → List Output
 watched_took to old limit stops met sink (Ok stop) new later goes = (way old goes.end).outputs
@@ -141,7 +137,7 @@ IsCall to (GoTo limit) old taken new =
 IsCall to (GoOn limit stops) old taken new =
     IsCallAnswered {A = Result (Option Stop) sinks.Refused}
     (λ sink answer later. GoesUntil to old.board limit stops sink answer new.board later)
-    (λ sink answer later done. road_took to old.board limit stops sink answer new.board later done) taken
+    (λ sink answer later done. watched_took to old.board limit stops None sink answer new.board later done) taken
     × (due_outputs old.board ≡ []) × (new.kept ≡ old.kept)
 IsCall to (GoWatched limit stops met) old taken new =
     IsCallAnswered {A = Result (Option Stop) sinks.Refused}
@@ -150,6 +146,8 @@ IsCall to (GoWatched limit stops met) old taken new =
     × (due_outputs old.board ≡ []) × (new.kept ≡ old.kept)
 IsCall to (CountAsked microseconds) old taken new =
     IsSilent (record { board = with_more_asked old.board microseconds; kept = old.kept }) taken new
+IsCall to (ForgetAsked most) old taken new =
+    IsSilent (record { board = with_asked_at_most old.board most; kept = old.kept }) taken new
 IsCall to Reset old taken new = IsSilent (record { board = board_after_reset old.board; kept = old.kept }) taken new
 IsCall to (InputSet mask) old taken new =
     IsSilent (record { board = board_with_inputs old.board (held_with old.board.state.now.board.memory.held mask); kept = old.kept })
@@ -175,6 +173,7 @@ acts_of older (GoTo limit) steps = replicate steps StepOn
 acts_of older (GoOn limit stops) steps = replicate steps StepOn
 acts_of older (GoWatched limit stops met) steps = replicate steps StepOn
 acts_of older (CountAsked microseconds) steps = []
+acts_of older (ForgetAsked most) steps = []
 acts_of older Reset steps = ResetBoard ∷ []
 acts_of older (InputSet mask) steps = HoldToo mask ∷ []
 acts_of older (InputClear mask) steps = LetGo mask ∷ []

@@ -55,6 +55,9 @@ pub use Rattle.pac_machine.specs.Fields
 pub use Rattle.pac_machine.specs.Trails
 pub use Rattle.pac_machine.specs.Stops
 pub use Rattle.pac_machine.specs.StopsProofs
+pub use Rattle.pac_machine.specs.Watches
+pub use Rattle.pac_machine.specs.declared.watch.Access
+pub use Rattle.pac_machine.specs.declared.watch.Access.TheVariants as AccessVariants
 pub use Rattle.pac_machine.specs.declared.due.Due
 pub use Rattle.pac_machine.specs.declared.fields.Fields as BoardFields
 pub use Rattle.pac_machine.specs.declared.trail.PastStep

@@ -1,10 +1,10 @@
--- Law: the walk of a board up to a limit, or to an earlier end: before a step that begins where it is to stop, or after one that met a write
--- that is watched; nothing is due before.
+-- Law: the walk of a board up to a limit, or to an earlier end: before a step that begins where it is to stop, or after one that did
+-- something at an address that is watched; nothing is due before.
 use Rattle.std.specs.Prelude.{◌≡◌, ◌<◌, ◌≤◌, ℕ, List, Option, None, Some, Result, Ok, Err, true}
 use Rattle.pac_cpu.specs.declared.once.Stop.{Stop}
 use Rattle.pac_board_model.specs.Output.{Output}
 use Rattle.pac_machine.specs.Stops.{is_stop}
-use Rattle.pac_machine.specs.declared.watch.WatchedWrite.{WatchedWrite}
+use Rattle.pac_machine.specs.declared.watch.Access.{Access}
 use Rattle.pac_board.specs.SinksLaws.{Giving}
 use Rattle.pac_board.specs.State.{BoardValue}
 use Rattle.pac_board.specs.Turns.{HasGone, IsWayRefused}
@@ -15,29 +15,14 @@ pub record IsAtStop (stops : Option (List ℕ)) (time : ℕ) (stop : Option Stop
   pub time_is : new.state.now.time ≡ time
   pub here : is_stop stops new.state.now.regs.pc ≡ true
 
--- The walk came to its end: the limit, or an earlier time, at which it is to stop. A walk with any time before it does one step at least.
-pub record HasGoneUntil {S : Type 0} (took : S → Output → S → Type 0) (old : BoardValue) (limit : ℕ) (stops : Option (List ℕ)) (sink : S)
-    (stop : Option Stop) (new : BoardValue) (later : S)
-    : Type 0 where
-  pub end : ℕ
-  pub within : end ≤ limit
-  pub some : old.state.now.time < limit → old.state.now.time < end
-  pub gone : HasGone took old end sink stop new later
-  pub early : end < limit → IsAtStop stops end stop new
-
-abbrev pub GoesUntil : {S E : Type 0} → Giving S → BoardValue → ℕ → Option (List ℕ) → S → Result (Option Stop) E → BoardValue → S → Type 0
-GoesUntil to old limit stops sink (Ok stop) new later = HasGoneUntil to.took old limit stops sink stop new later
-GoesUntil to old limit stops sink (Err refusal) new later = IsWayRefused to old limit sink new later
-
--- ---- the same, where writes are watched
-
--- the board stands where it is to stop, or its last step met a write that is watched; no stop has come
-abbrev pub IsHeld : (stops : Option (List ℕ)) (time : ℕ) (met : Option WatchedWrite) (stop : Option Stop) (new : BoardValue) → Type 0
+-- the board stands where it is to stop, or its last step did something at an address that is watched; no stop has come
+abbrev pub IsHeld : (stops : Option (List ℕ)) (time : ℕ) (met : Option Access) (stop : Option Stop) (new : BoardValue) → Type 0
 IsHeld stops time None stop new = IsAtStop stops time stop new
-IsHeld stops time (Some write) stop new = (stop ≡ None) × (new.state.now.time ≡ time)
+IsHeld stops time (Some access) stop new = (stop ≡ None) × (new.state.now.time ≡ time)
 
+-- The walk came to its end: the limit, or an earlier time, at which it is to stop. A walk with any time before it does one step at least.
 pub record HasGoneWatching {S : Type 0} (took : S → Output → S → Type 0) (old : BoardValue) (limit : ℕ) (stops : Option (List ℕ))
-    (met : Option WatchedWrite) (sink : S) (stop : Option Stop) (new : BoardValue) (later : S)
+    (met : Option Access) (sink : S) (stop : Option Stop) (new : BoardValue) (later : S)
     : Type 0 where
   pub end : ℕ
   pub within : end ≤ limit
@@ -45,7 +30,15 @@ pub record HasGoneWatching {S : Type 0} (took : S → Output → S → Type 0) (
   pub gone : HasGone took old end sink stop new later
   pub early : end < limit → IsHeld stops end met stop new
 
-abbrev pub GoesWatching : {S E : Type 0} → Giving S → BoardValue → ℕ → Option (List ℕ) → Option WatchedWrite → S → Result (Option Stop) E
+abbrev pub GoesWatching : {S E : Type 0} → Giving S → BoardValue → ℕ → Option (List ℕ) → Option Access → S → Result (Option Stop) E
     → BoardValue → S → Type 0
 GoesWatching to old limit stops met sink (Ok stop) new later = HasGoneWatching to.took old limit stops met sink stop new later
 GoesWatching to old limit stops met sink (Err refusal) new later = IsWayRefused to old limit sink new later
+
+-- ---- the same, where nothing is watched
+
+abbrev pub HasGoneUntil : {S : Type 0} → (S → Output → S → Type 0) → BoardValue → ℕ → Option (List ℕ) → S → Option Stop → BoardValue → S → Type 0
+HasGoneUntil took old limit stops sink stop new later = HasGoneWatching took old limit stops None sink stop new later
+
+abbrev pub GoesUntil : {S E : Type 0} → Giving S → BoardValue → ℕ → Option (List ℕ) → S → Result (Option Stop) E → BoardValue → S → Type 0
+GoesUntil to old limit stops sink answer new later = GoesWatching to old limit stops None sink answer new later

@@ -133,6 +133,14 @@ impl Board {
         self.asked += microseconds;
     }
 
+    /// Forgets of the microseconds asked in all what is over these. No step is made or undone: for a caller that met a stop, and doesn't want
+    /// the time that was asked past it.
+    pub fn forget_asked(&mut self, most: u64)
+        ensures { self.new ≡ state_laws.with_asked_at_most self.old most }
+    {
+        self.asked = self.asked.min(most);
+    }
+
     /// The picture as it stands.
     pub fn picture(&self) -> &Picture
         ensures lines { result.now.lines ≡ self.now.state.now.board.lines }

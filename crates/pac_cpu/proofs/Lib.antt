@@ -1,5 +1,6 @@
 pub mod CpuSteps
 pub mod Views
+pub mod RestOnReads
 pub use Rattle.pac_num.proofs.Tabulated
 pub use Rattle.pac_table.proofs.Lengths as CodeLengths
 pub use Rattle.pac_code.proofs.RoundTrip

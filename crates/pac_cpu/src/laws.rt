@@ -5,12 +5,18 @@ ghost use Rattle.pac_bus.specs.Action.{Action};
 ghost use Rattle.pac_exec.specs.declared.regs.Regs.{Regs};
 ghost use Rattle.pac_cpu.specs.StepLaws.{CpuStepRestsOnAnswers, EachCpuStepIsInTime, surroundings_of};
 ghost use Rattle.pac_cpu.specs.Step.{cpu_step};
+ghost use Rattle.pac_cpu.specs.StepReadsLaws.{CpuStepRestsOnReads};
 
 use pac_bus::Bus;
 
 /// A step rests on the answers to its questions alone.
 pub fn cpu_step_rests_on_answers()
     ensures { CpuStepRestsOnAnswers }
+{}
+
+/// A step rests on no other cells than its code and those that it reads as data.
+pub fn cpu_step_rests_on_reads()
+    ensures { CpuStepRestsOnReads }
 {}
 
 /// A step that is no stop takes 4 to 23 T-states.

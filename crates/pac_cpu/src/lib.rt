@@ -5,10 +5,11 @@ mod cpu;
 pub mod laws;
 mod once;
 mod power;
+mod reads;
 mod step;
 
 pub use cpu::Cpu;
 pub use once::{Cause, Once, StepKind, Stop};
 pub use pac_bus::Bus;
-pub use pac_exec::{Alternate, Regs};
+pub use pac_exec::{Alternate, DataReads, Regs};
 pub use pac_table::InterruptMode;

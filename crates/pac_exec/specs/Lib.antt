@@ -17,5 +17,8 @@ pub mod Ports
 pub mod Blocks
 pub mod BlocksProofs
 pub mod Effect
+pub mod CellsRead
+pub mod CellsReadProofs
+pub mod CellsReadLaws
 pub use Rattle.pac_table.specs.declared.effects.InterruptMode
 pub use Rattle.pac_table.specs.declared.effects.InterruptMode.TheVariants as InterruptModeVariants

@@ -12,7 +12,7 @@ use pac_table::{BytePlace, Instr};
 
 /// The address of a place in memory; 0 where the place is none.
 #[inline(always)]
-fn address(place: BytePlace, instr: &Instr, regs: &Regs) -> u16
+pub(crate) fn address(place: BytePlace, instr: &Instr, regs: &Regs) -> u16
     ensures { result ≡ place_address place instr.now regs.now }
 {
     match place {

@@ -8,7 +8,8 @@ use Rattle.pac_board.proofs.Pieces.{two-parts}
 use Rattle.pac_board.proofs.Walked.{walked-after}
 use Rattle.pac_board.specs.BoardView.{BoardView}
 use Rattle.pac_board.specs.Due.{Due}
-use Rattle.pac_board.specs.Calls.{board_after_step, course, next_of, outputs_given, with_due}
+use Rattle.pac_board.specs.Access.{Access}
+use Rattle.pac_board.specs.Calls.{board_after_step, board_after_walk, course, next_of, outputs_given, way, way_at, with_due}
 use Rattle.pac_board.specs.CallsLaws.{once_of_board}
 use Rattle.pac_board.specs.Laws.{IsOnTheWay, TimeCanBeCut}
 use Rattle.pac_board.specs.Output.{Output, sound_count}
@@ -20,14 +21,14 @@ use Rattle.pac_board.specs.Stop.{Stop}
 use Rattle.pac_board.specs.Trace.{by_view}
 use Rattle.pac_board.specs.Walk.{Walk, walk_to}
 use Rattle.pac_host.specs.declared.live_until.Ended.{Ended}
-use Rattle.pac_host.specs.declared.live_until.Ended.TheVariants.{TimeOver, AtPlace, AtStop, BufferFull}
+use Rattle.pac_host.specs.declared.live_until.Ended.TheVariants.{TimeOver, AtPlace, AtStop, BufferFull, AtAccess}
 use Rattle.pac_host.specs.declared.live_until.PacUntil.{PacUntil}
 use Rattle.pac_block.specs.declared.ran.PacRan.{PacRan}
 use Rattle.pac_host.specs.CutLaws.{TimeCall, GoUntil, MakeStep, PassTime, asked_by, GiveInTime, AnyCutsAreOneTime}
 use Rattle.pac_block.specs.Host.{board_after_exec, samples_given, state_left}
 use Rattle.pac_host.specs.LiveStep.{HasStepped, outputs_of_one}
 use Rattle.pac_host.specs.LiveTime.{HasRunOn}
-use Rattle.pac_host.specs.LiveUntil.{HasGoneFor, HasComeTo, HasFilled, WentBy, board_walked, walk_tried, walk_until}
+use Rattle.pac_host.specs.LiveUntil.{HasGoneFor, HasComeTo, HasFilled, WentBy}
 use Rattle.pac_block.proofs.Sounding.{samples-append}
 use Rattle.pac_block.proofs.Stops.{left-in-parts}
 use Rattle.pac_block.proofs.TimeParts.{head-is, told-samples}
@@ -36,14 +37,14 @@ use Rattle.pac_block.proofs.TimeParts.{head-is, told-samples}
 
 -- a board that a walk has brought somewhere, with what was taken and what is due
 walk-on-the-way : (old : BoardValue) (microseconds tries : ℕ) (due : Due) (taken : List Output) (w : Walk BoardView)
-    → w ≡ walk_tried old (time_of (old.state.asked + microseconds)) tries
-    → due_outputs old ++ w.outputs ≡ taken ++ due_outputs (board_walked old w due)
-    → IsOnTheWay old (board_walked old w due) microseconds taken
+    → w ≡ way_at old (time_of (old.state.asked + microseconds)) tries
+    → due_outputs old ++ w.outputs ≡ taken ++ due_outputs (with_due (board_after_walk old w) due)
+    → IsOnTheWay old (with_due (board_after_walk old w) due) microseconds taken
 walk-on-the-way old microseconds tries due taken w is parts =
     let next = step (by_view old.set) in
     let timely = step-timely (by_view old.set) in
     let limit = time_of (old.state.asked + microseconds) in
-    let new = board_walked old w due in
+    let new = with_due (board_after_walk old w) due in
     let d = course new microseconds in
     let whole =
     ap (λ v. joined next limit v (walk_to next limit v.now)) is ∙ goes-on next limit timely old.state.now tries in
@@ -59,8 +60,8 @@ walk-on-the-way old microseconds tries due taken w is parts =
       stop_is = ap (λ (v : Walk BoardView). v.stop) whole;
     }
 
-come-on-the-way : {ended : Ended} {here : ℕ → Bool} {limit : ℕ} {stop : Option Stop} (old new : BoardValue) (microseconds : ℕ)
-    (given : List Output) → limit ≤ time_of (old.state.asked + microseconds) → HasComeTo ended here limit old given stop new
+come-on-the-way : {ended : Ended} {here : ℕ → Bool} {limit : ℕ} {stop : Option Stop} {met : Option Access} (old new : BoardValue) (microseconds : ℕ)
+    (given : List Output) → limit ≤ time_of (old.state.asked + microseconds) → HasComeTo ended here limit old given stop met new
     → IsOnTheWay old new microseconds given
 come-on-the-way old new microseconds given within come =
     let next = step (by_view old.set) in
@@ -68,7 +69,7 @@ come-on-the-way old new microseconds given within come =
     let less = come.within in
     let on = on-the-way next come.end last old.state.now come.end (omega (arith, less, within)) in
     subst (λ (b : BoardValue). IsOnTheWay old b microseconds given) (sym come.board)
-    (walk-on-the-way old microseconds on.0 nothing_due given (walk_until old come.end) on.1
+    (walk-on-the-way old microseconds on.0 nothing_due given (way old come.end) on.1
     (sym come.given_is ∙ sym (append-nil given)))
 
 fill-on-the-way : {here : ℕ → Bool} {limit room : ℕ} (old new : BoardValue) (microseconds : ℕ) (given : List Output)
@@ -78,16 +79,17 @@ fill-on-the-way {here} {limit} old new microseconds given within filled =
     let last = time_of (old.state.asked + microseconds) in
     let on = on-the-way next limit last old.state.now filled.steps within in
     subst (λ (b : BoardValue). IsOnTheWay old b microseconds given) (sym filled.board)
-    (walk-on-the-way old microseconds on.0 new.state.due given (walk_tried old limit filled.steps) on.1
+    (walk-on-the-way old microseconds on.0 new.state.due given (way_at old limit filled.steps) on.1
     (filled.outputs ∙ ap (λ (b : BoardValue). given ++ due_outputs b) filled.board))
 
-went-on-the-way : (ended : Ended) (here : ℕ → Bool) (limit room : ℕ) (stop : Option Stop) (old new : BoardValue) (microseconds : ℕ)
-    (given : List Output) → limit ≤ time_of (old.state.asked + microseconds) → WentBy ended here limit room old given stop new
+went-on-the-way : (ended : Ended) (here : ℕ → Bool) (limit room : ℕ) (stop : Option Stop) (met : Option Access) (old new : BoardValue)
+    (microseconds : ℕ) (given : List Output) → limit ≤ time_of (old.state.asked + microseconds) → WentBy ended here limit room old given stop met new
     → IsOnTheWay old new microseconds given
-went-on-the-way BufferFull here limit room stop old new microseconds given within went = fill-on-the-way old new microseconds given within went.0
-went-on-the-way TimeOver here limit room stop old new microseconds given within went = come-on-the-way old new microseconds given within went
-went-on-the-way AtPlace here limit room stop old new microseconds given within went = come-on-the-way old new microseconds given within went
-went-on-the-way AtStop here limit room stop old new microseconds given within went = come-on-the-way old new microseconds given within went
+went-on-the-way BufferFull here limit room stop met old new microseconds given within went = fill-on-the-way old new microseconds given within went.0
+went-on-the-way TimeOver here limit room stop met old new microseconds given within went = come-on-the-way old new microseconds given within went
+went-on-the-way AtPlace here limit room stop met old new microseconds given within went = come-on-the-way old new microseconds given within went
+went-on-the-way AtStop here limit room stop met old new microseconds given within went = come-on-the-way old new microseconds given within went
+went-on-the-way AtAccess here limit room stop met old new microseconds given within went = come-on-the-way old new microseconds given within went
 
 -- ---- a call is a part of one call
 
@@ -128,22 +130,23 @@ stepped-set : (board : BoardValue) (h : Next BoardView) → (board_after_step h 
 stepped-set board (Goes now outputs kind) = refl
 stepped-set board (Ends stop) = refl
 
-come-set : (ended : Ended) (here : ℕ → Bool) (limit room : ℕ) (stop : Option Stop) (old new : BoardValue) (given : List Output)
-    → WentBy ended here limit room old given stop new → new.set ≡ old.set
-come-set BufferFull here limit room stop old new given went = ap (λ (b : BoardValue). b.set) went.0.board
-come-set TimeOver here limit room stop old new given went = ap (λ (b : BoardValue). b.set) went.board
-come-set AtPlace here limit room stop old new given went = ap (λ (b : BoardValue). b.set) went.board
-come-set AtStop here limit room stop old new given went = ap (λ (b : BoardValue). b.set) went.board
+come-set : (ended : Ended) (here : ℕ → Bool) (limit room : ℕ) (stop : Option Stop) (met : Option Access) (old new : BoardValue)
+    (given : List Output) → WentBy ended here limit room old given stop met new → new.set ≡ old.set
+come-set BufferFull here limit room stop met old new given went = ap (λ (b : BoardValue). b.set) went.0.board
+come-set TimeOver here limit room stop met old new given went = ap (λ (b : BoardValue). b.set) went.board
+come-set AtPlace here limit room stop met old new given went = ap (λ (b : BoardValue). b.set) went.board
+come-set AtStop here limit room stop met old new given went = ap (λ (b : BoardValue). b.set) went.board
+come-set AtAccess here limit room stop met old new given went = ap (λ (b : BoardValue). b.set) went.board
 
-gone-part : (places : List ℕ) (ticks rest : ℕ) (old mid : BoardValue) (samples after taken : List ℤ) (told : PacUntil)
-    → HasGoneFor places ticks old samples mid after told → taken ≡ take told.samples after
+gone-part : (places watched : List ℕ) (ticks rest : ℕ) (old mid : BoardValue) (samples after taken : List ℤ) (told : PacUntil)
+    → HasGoneFor ticks places watched old samples mid after told → taken ≡ take told.samples after
     → old.state.now.time + ticks ≤ time_of (old.state.asked + rest) → IsPartOf old mid rest rest taken
-gone-part places ticks rest old mid samples after taken told done is within =
+gone-part places watched ticks rest old mid samples after taken told done is within =
     let gone = done.gone in
     let count = ap (λ (told : PacUntil). told.samples) gone.told_is ∙ told-samples _ (sound_count gone.given) _ gone.stop in
     part-of-way old mid rest gone.given taken (is ∙ taken-is told.samples gone.given samples after count gone.samples_are)
-    (come-set gone.ended _ _ _ gone.stop old mid gone.given gone.went)
-    (went-on-the-way gone.ended _ _ _ gone.stop old mid rest gone.given within gone.went)
+    (come-set gone.ended _ _ _ gone.stop gone.met old mid gone.given gone.went)
+    (went-on-the-way gone.ended _ _ _ gone.stop gone.met old mid rest gone.given within gone.went)
 
 -- a sink that takes all
 abbrev takes_all : Giving (Unit {0})
@@ -199,11 +202,11 @@ module _ (cuts : TimeCanBeCut) where
       subst (λ (all : ℕ). IsPartOf old new all last given) (none-more last)
       (subst (λ (xs : List ℤ). IsPartOf old new last last xs) (sym done.1)
       (subst (λ (b : BoardValue). IsPartOf old b last last []) (sym done.0) (record { set = refl; state = refl; given = refl })))
-  parts (GoUntil ticks places ∷ calls) last old new given done =
+  parts (GoUntil ticks places watched ∷ calls) last old new given done =
       let mid = done.0 in let first = done.1 in let more = done.2 in let one = done.3 in let within = done.4 in let rest = done.5 in
       subst (λ (xs : List ℤ). IsPartOf old new (asked_by calls + last) last xs) (sym done.6)
       (part-of-both old mid new (asked_by calls + last) (asked_by calls + last) last first more
-      (gone-part places ticks (asked_by calls + last) old mid one.0 one.1 first one.2 one.3 one.4 within)
+      (gone-part places watched ticks (asked_by calls + last) old mid one.0 one.1 first one.2 one.3 one.4 within)
       (parts calls last mid new more rest))
   parts (MakeStep ∷ calls) last old new given done =
       let mid = done.0 in let first = done.1 in let more = done.2 in let one = done.3 in let within = done.4 in let rest = done.5 in

@@ -12,13 +12,15 @@ use Rattle.pac_board_model.specs.Walk.{Walk, walk, walk_at_start, walk_after_ste
 use Rattle.pac_board_model.specs.WalkLaws.{has_ended}
 use Rattle.pac_board_model.proofs.Walks.{ended-for-good, ended-stays, ended-whole, going-before, going-steps, late-has-ended, not-both, step-timely}
 use Rattle.pac_board_model.proofs.WalkTimes.{walks-are-timed}
+use Rattle.pac_board.proofs.Roads.{met-nothing}
 use Rattle.pac_board.proofs.Sinks.{cut-after, took-both}
 use Rattle.pac_board.proofs.Turns.{run-later}
 use Rattle.pac_board.specs.Calls.{now_after, with_due}
 use Rattle.pac_board.specs.Turns.{way, way_at, board_after_walk}
 use Rattle.pac_board.specs.CallsLaws.{IsOfferRefused}
-use Rattle.pac_board.specs.Roads.{HasGoneUntil}
-use Rattle.pac_board.specs.RoadsProofs.{BoardPasses}
+use Rattle.pac_board.specs.Access.{Access}
+use Rattle.pac_board.specs.Roads.{HasGoneWatching, IsHeld}
+use Rattle.pac_board.specs.RoadsProofs.{BoardPasses, BoardWatched}
 use Rattle.pac_board.specs.Sinks.{TookAll}
 use Rattle.pac_board.specs.SinksLaws.{by, Cut}
 use Rattle.pac_board.specs.State.{BoardValue, due_outputs, due_with, nothing_due, steps_counted}
@@ -26,10 +28,10 @@ use Rattle.pac_board.specs.Stop.{Stop}
 use Rattle.pac_board.specs.Stops.{is_stop}
 use Rattle.pac_board.specs.Trails.{stepped}
 use Rattle.pac_host.specs.declared.live_until.Ended.{Ended}
-use Rattle.pac_host.specs.declared.live_until.Ended.TheVariants.{TimeOver, AtPlace, AtStop, BufferFull}
+use Rattle.pac_host.specs.declared.live_until.Ended.TheVariants.{TimeOver, AtPlace, AtStop, BufferFull, AtAccess}
 use Rattle.pac_block.specs.declared.sounds.Sounds.{Sounds}
 use Rattle.pac_host.specs.declared.live_until.PacUntil.{PacUntil}
-use Rattle.pac_host.specs.LiveUntil.{EndsBy, HasComeTo, IsGoneOn, PassesPlaces, WentBy}
+use Rattle.pac_host.specs.LiveUntil.{EndsBy, HasComeTo, HasMet, IsGoneOn, PassesPlaces, WentBy}
 use Rattle.pac_host.specs.LiveUntils.{IsGone, WalksOn, WalksBy}
 use Rattle.pac_block.specs.Sounding.{sounding_took, sounding_refused}
 use Rattle.pac_host.proofs.LiveSteps.{at-most-one}
@@ -173,15 +175,15 @@ way-to-now old =
     sym (ended-whole next time (step-timely (by_view old.set)) old.state.now zero
     (late-has-ended time (walk_at_start old.state.now) (omega arith)))
 
-module _ (stops : Option (List ℕ)) (limit : ℕ) (old : BoardValue) (sink : Sounds) (none : sink.taken ≡ 0) (no_picture : sink.pictures ≡ 0)
+module _ (stops marks : Option (List ℕ)) (limit : ℕ) (old : BoardValue) (sink : Sounds) (none : sink.taken ≡ 0) (no_picture : sink.pictures ≡ 0)
   where
-    abbrev Gone : Ended → Option Stop → BoardValue → Sounds → Type 0
-    Gone ended stop new later = IsGone stops limit old sink ended stop new later
+    abbrev Gone : Ended → Option Stop → Option Access → BoardValue → Sounds → Type 0
+    Gone ended stop met new later = IsGone stops marks limit old sink ended stop met new later
 
     -- what was due was refused
-    pub offer-full : {new : BoardValue} {later : Sounds} → old.made < 2 ^ 64
-        → IsOfferRefused (by sounding_took sounding_refused) old sink new later → Gone BufferFull None new later
-    offer-full {new} {later} bound offer =
+    pub offer-full : {new : BoardValue} {later : Sounds} {met : Option Access} → met ≡ None → old.made < 2 ^ 64
+        → IsOfferRefused (by sounding_took sounding_refused) old sink new later → Gone BufferFull None met new later
+    offer-full {new} {later} {met} unmet bound offer =
         let is = is-full sink later none no_picture offer.cut in
         let steps = ap (λ (b : BoardValue). b.state.now.steps) offer.board in
         record {
@@ -205,13 +207,14 @@ module _ (stops : Option (List ℕ)) (limit : ℕ) (old : BoardValue) (sink : So
             },
             refl,
           );
+          watched = met-nothing marks old new met steps unmet;
         }
 
     -- the board is at such an address, after what was due was taken
-    pub at-once : {new : BoardValue} {later : Sounds} → old.made < 2 ^ 64 → old.state.now.time ≤ limit → new ≡ with_due old nothing_due
-        → TookAll sounding_took sink (due_outputs old) later → due_outputs old ≢ [] → is_stop stops new.state.now.regs.pc ≡ true
-        → Gone AtPlace None new later
-    at-once {new} {later} bound within same taken some stands =
+    pub at-once : {new : BoardValue} {later : Sounds} {met : Option Access} → met ≡ None → old.made < 2 ^ 64 → old.state.now.time ≤ limit
+        → new ≡ with_due old nothing_due → TookAll sounding_took sink (due_outputs old) later → due_outputs old ≢ []
+        → is_stop stops new.state.now.regs.pc ≡ true → Gone AtPlace None met new later
+    at-once {new} {later} {met} unmet bound within same taken some stands =
         let steps = ap (λ (b : BoardValue). b.state.now.steps) same in
         let start = way-to-now old in
         let outputs = sym (append-nil (due_outputs old)) ∙ ap (λ (w : Walk BoardView). due_outputs old ++ w.outputs) (sym start) in
@@ -228,23 +231,26 @@ module _ (stops : Option (List ℕ)) (limit : ℕ) (old : BoardValue) (sink : So
               first = λ some fewer. absurd (omega (arith, steps, fewer));
               others = λ n some fewer. absurd (omega (arith, steps, fewer));
             };
-            ends = (refl, stands, inr some);
+            ends = (refl, unmet, stands, inr some);
           };
+          watched = met-nothing marks old new met steps unmet;
         }
 
     -- the board went on after what was due was taken
-    module _ (between later : Sounds) (new : BoardValue) (stop : Option Stop) (taken : TookAll sounding_took sink (due_outputs old) between)
+    module _ (between later : Sounds) (new : BoardValue) (stop : Option Stop) (met : Option Access)
+        (taken : TookAll sounding_took sink (due_outputs old) between)
         (first : due_outputs old ≢ [] → is_stop stops old.state.now.regs.pc ≡ false) (passed : BoardPasses stops (with_due old nothing_due) new)
+        (watched : BoardWatched marks (with_due old nothing_due) new met)
       where
         abbrev Until : Type 0
-        Until = HasGoneUntil sounding_took (with_due old nothing_due) limit stops between stop new later
+        Until = HasGoneWatching sounding_took (with_due old nothing_due) limit stops met between stop new later
 
         passes-by : (end m : ℕ) → new.state.now ≡ (way_at old end m).now → PassesPlaces (is_stop stops) end old new
         passes-by end m is =
             record { first = λ some fewer. first some; others = passes-there stops old new end m is passed }
 
-        come : (ended : Ended) (gone : Until) → EndsBy ended (is_stop stops) limit gone.end stop old new
-            → HasComeTo ended (is_stop stops) limit old (due_outputs old ++ (way old gone.end).outputs) stop new
+        come : (ended : Ended) (gone : Until) → EndsBy ended (is_stop stops) limit gone.end stop met old new
+            → HasComeTo ended (is_stop stops) limit old (due_outputs old ++ (way old gone.end).outputs) stop met new
         come ended gone ends = record {
           end = gone.end;
           within = gone.within;
@@ -259,14 +265,14 @@ module _ (stops : Option (List ℕ)) (limit : ℕ) (old : BoardValue) (sink : So
         took-all gone = took-both sounding_took (due_outputs old) (way old gone.end).outputs sink between later taken gone.gone.sink_is
 
         -- it ended by the time where it isn't at such an address
-        whole-time : (gone : Until) → (old.state.now.time < new.state.now.time → is_stop stops new.state.now.regs.pc ≡ false)
+        whole-time : (gone : Until) → met ≡ None → (old.state.now.time < new.state.now.time → is_stop stops new.state.now.regs.pc ≡ false)
             → gone.end ≡ limit
-        whole-time gone nowhere = here (nat_lt gone.end limit) refl
+        whole-time gone unmet nowhere = here (nat_lt gone.end limit) refl
           where
             here : (b : Bool) → nat_lt gone.end limit ≡ b → gone.end ≡ limit
             here true e =
                 let early : gone.end < limit = grind (arith, nat_tests) in
-                let there = gone.early early in
+                let there = subst (λ (met : Option Access). IsHeld stops gone.end met stop new) unmet (gone.early early) in
                 let time = there.time_is in
                 let later = run-later gone.gone in
                 let on = gone.some (omega (arith, early, time, later)) in
@@ -276,28 +282,26 @@ module _ (stops : Option (List ℕ)) (limit : ℕ) (old : BoardValue) (sink : So
                 let late : limit ≤ gone.end = grind (arith, nat_tests) in
                 omega (arith, within, late)
 
-        walked : (ended : Ended) → WalksBy ended stops limit (with_due old nothing_due) between stop new later → Gone ended stop new later
+        gone-by : (ended : Ended) (gone : Until)
+            → WentBy ended (is_stop stops) limit (length sink.samples.now) old (due_outputs old ++ (way old gone.end).outputs) stop met new
+            → Gone ended stop met new later
+        gone-by ended gone went = record {
+          given = due_outputs old ++ (way old gone.end).outputs;
+          took = took-all gone;
+          went = went;
+          watched = watched;
+        }
+
+        walked : (ended : Ended) → WalksBy ended stops limit (with_due old nothing_due) between stop met new later → Gone ended stop met new later
         walked TimeOver walks =
             let gone = walks.0 in
-            record {
-              given = due_outputs old ++ (way old gone.end).outputs;
-              took = took-all gone;
-              went = come TimeOver gone (walks.1, whole-time gone walks.2, walks.2, first);
-            }
+            gone-by TimeOver gone (come TimeOver gone (walks.1, walks.2, whole-time gone walks.2 walks.3, walks.3, first))
         walked AtPlace walks =
-            let gone = walks.0 in
-            record {
-              given = due_outputs old ++ (way old gone.end).outputs;
-              took = took-all gone;
-              went = come AtPlace gone (walks.1, walks.3, inl walks.2);
-            }
+            let gone = walks.0 in gone-by AtPlace gone (come AtPlace gone (walks.1, walks.2, walks.4, inl walks.3))
         walked AtStop walks =
-            let gone = walks.0 in
-            record {
-              given = due_outputs old ++ (way old gone.end).outputs;
-              took = took-all gone;
-              went = come AtStop gone walks.1;
-            }
+            let gone = walks.0 in gone-by AtStop gone (come AtStop gone walks.1)
+        walked AtAccess walks =
+            let gone = walks.0 in gone-by AtAccess gone (come AtAccess gone walks.1)
         walked BufferFull walks =
             let refused = walks.0 in
             let due = due_outputs old in
@@ -325,14 +329,16 @@ module _ (stops : Option (List ℕ)) (limit : ℕ) (old : BoardValue) (sink : So
                 },
                 walks.1,
               );
+              watched = watched;
             }
 
-    pub went-on : {mid new : BoardValue} {between later : Sounds} {ended : Ended} {stop : Option Stop} → mid ≡ with_due old nothing_due
-        → TookAll sounding_took sink (due_outputs old) between → (due_outputs old ≢ [] → is_stop stops old.state.now.regs.pc ≡ false)
-        → WalksOn stops limit mid between ended stop new later → Gone ended stop new later
-    went-on {mid} {new} {between} {later} {ended} {stop} same taken first on =
-        let there = subst (λ (b : BoardValue). WalksOn stops limit b between ended stop new later) same on in
-        walked between later new stop taken first there.passes ended there.walks
+    pub went-on : {mid new : BoardValue} {between later : Sounds} {ended : Ended} {stop : Option Stop} {met : Option Access}
+        → mid ≡ with_due old nothing_due → TookAll sounding_took sink (due_outputs old) between
+        → (due_outputs old ≢ [] → is_stop stops old.state.now.regs.pc ≡ false) → WalksOn stops marks limit mid between ended stop met new later
+        → Gone ended stop met new later
+    went-on {mid} {new} {between} {later} {ended} {stop} {met} same taken first on =
+        let there = subst (λ (b : BoardValue). WalksOn stops marks limit b between ended stop met new later) same on in
+        walked between later new stop met taken first there.passes there.watched ended there.walks
 
 -- ---- whether something is due
 
@@ -418,24 +424,29 @@ few-of-all given left all is few =
     let many = few.pictures in
     record { sounds = omega (arith, counts, sounds, most); pictures = omega (arith, shown, pictures, many) }
 
+few-come : {ended : Ended} {here : ℕ → Bool} {limit : ℕ} {stop : Option Stop} {met : Option Access} {new : BoardValue} (old : BoardValue)
+    (given : List Output) → limit ≤ old.state.now.time + 2 ^ 32 → HasComeTo ended here limit old given stop met new → AreFew given
+few-come old given soon went =
+    subst AreFew (sym went.given_is) (let within = went.within in on-the-way-few old went.end went.end (omega (arith, within, soon)))
+
 pub few-given : (ended : Ended) (here : ℕ → Bool) (limit room : ℕ) (old : BoardValue) (given : List Output) (stop : Option Stop)
-    (new : BoardValue) → limit ≤ old.state.now.time + 2 ^ 32 → WentBy ended here limit room old given stop new → AreFew given
-few-given BufferFull here limit room old given stop new soon went =
+    (met : Option Access) (new : BoardValue) → limit ≤ old.state.now.time + 2 ^ 32 → WentBy ended here limit room old given stop met new
+    → AreFew given
+few-given BufferFull here limit room old given stop met new soon went =
     let filled = went.0 in
     few-of-all given (due_outputs new) _ filled.outputs (on-the-way-few old limit filled.steps soon)
-few-given TimeOver here limit room old given stop new soon went =
-    subst AreFew (sym went.given_is) (let within = went.within in on-the-way-few old went.end went.end (omega (arith, within, soon)))
-few-given AtPlace here limit room old given stop new soon went =
-    subst AreFew (sym went.given_is) (let within = went.within in on-the-way-few old went.end went.end (omega (arith, within, soon)))
-few-given AtStop here limit room old given stop new soon went =
-    subst AreFew (sym went.given_is) (let within = went.within in on-the-way-few old went.end went.end (omega (arith, within, soon)))
+few-given TimeOver here limit room old given stop met new soon went = few-come old given soon went
+few-given AtPlace here limit room old given stop met new soon went = few-come old given soon went
+few-given AtStop here limit room old given stop met new soon went = few-come old given soon went
+few-given AtAccess here limit room old given stop met new soon went = few-come old given soon went
 
 -- ---- by the set that a host hands in, and the time
 
-pub gone-same : {here there : ℕ → Bool} {limit other : ℕ} {old new : BoardValue} {samples after : List ℤ} {told : PacUntil}
-    → ((address : ℕ) → here address ≡ there address) → limit ≡ other → IsGoneOn here limit old samples new after told
-    → IsGoneOn there other old samples new after told
-gone-same {here} {there} {limit} {other} {old} {new} {samples} {after} {told} same is gone =
+pub gone-same : {here there : ℕ → Bool} {marks map : Option (List ℕ)} {limit other : ℕ} {old new : BoardValue} {samples after : List ℤ}
+    {told : PacUntil} → ((address : ℕ) → here address ≡ there address) → marks ≡ map → limit ≡ other
+    → IsGoneOn here marks limit old samples new after told → IsGoneOn there map other old samples new after told
+gone-same {here} {there} {marks} {map} {limit} {other} {old} {new} {samples} {after} {told} same watched is gone =
     let set : here ≡ there = λ i. λ address. same address i in
-    subst (λ (n : ℕ). IsGoneOn there n old samples new after told) is
-    (subst (λ (h : ℕ → Bool). IsGoneOn h limit old samples new after told) set gone)
+    subst (λ (n : ℕ). IsGoneOn there map n old samples new after told) is
+    (subst (λ (m : Option (List ℕ)). IsGoneOn there m limit old samples new after told) watched
+    (subst (λ (h : ℕ → Bool). IsGoneOn h marks limit old samples new after told) set gone))

@@ -9,15 +9,15 @@ use Rattle.pac_host.specs.LiveUntil.{HasGoneFor}
 
 -- the calls by which time goes by
 pub data TimeCall : Type 0 where
-  GoUntil : (ticks : ℕ) → (places : List ℕ) → TimeCall
+  GoUntil : (ticks : ℕ) → (places watched : List ℕ) → TimeCall
   MakeStep : TimeCall
   PassTime : (microseconds : ℕ) → TimeCall
 
 -- a call was done, each with a buffer of its own, and gave these samples
 abbrev pub GivesInTime : TimeCall → (old : BoardValue) (given : List ℤ) (new : BoardValue) → Type 0
-GivesInTime (GoUntil ticks places) old given new =
+GivesInTime (GoUntil ticks places watched) old given new =
     (samples : List ℤ) × (samples_after : List ℤ) × (told : PacUntil)
-    × HasGoneFor places ticks old samples new samples_after told × (given ≡ take told.samples samples_after)
+    × HasGoneFor ticks places watched old samples new samples_after told × (given ≡ take told.samples samples_after)
 GivesInTime MakeStep old given new =
     (samples : List ℤ) × (samples_after : List ℤ) × (ran : PacRan)
     × HasStepped old samples new samples_after ran × (given ≡ take ran.samples samples_after)
@@ -33,7 +33,7 @@ asked_by (call ∷ calls) = asked_by calls
 
 -- a call doesn't reach past the time at which so many microseconds more are over
 abbrev pub IsWithinTime : TimeCall → BoardValue → (microseconds : ℕ) → Type 0
-IsWithinTime (GoUntil ticks places) board microseconds = board.state.now.time + ticks ≤ time_of (board.state.asked + microseconds)
+IsWithinTime (GoUntil ticks places watched) board microseconds = board.state.now.time + ticks ≤ time_of (board.state.asked + microseconds)
 IsWithinTime MakeStep board microseconds = board.state.now.time < time_of (board.state.asked + microseconds)
 IsWithinTime (PassTime more) board microseconds = ⊤
 
@@ -50,7 +50,7 @@ pub record IsOneTime (given last whole : List ℤ) (new once : BoardValue) : Typ
   pub state : new.state ≡ once.state
   pub samples : given ++ last ≡ whole
 
--- However time is cut by steps, by addresses, by full buffers and by microseconds, it is the time of one call for as many microseconds.
+-- However time is cut by steps, by addresses, by accesses, by full buffers and by microseconds, it is the time of one call for as many microseconds.
 abbrev pub AnyCutsAreOneTime : Type 0
 AnyCutsAreOneTime =
     (calls : List TimeCall) (last : ℕ) (old between new once : BoardValue) (given buffer last_samples wide whole_samples : List ℤ)

@@ -220,26 +220,30 @@ pub extern "C" fn pac_live_step(live: &mut PacLive, samples: &mut [i16], ran: &m
     code(live_step::step(live, samples, ran))
 }
 
-/// Goes on until so many T-states are over from now, and at most 22 longer; or the board is before an address of the set; or it can't go on; or
-/// the buffer has no room for the next sample. `ran.why` tells which of these: of the first two the address. `places` has 65,536 bytes, one for
-/// each address, which isn't 0 where it is in the set; or none, and then no address is. Where there is time, one step at least is done, so that
-/// the board goes on from an address that it is at. The samples go to the head of `samples`. What had no room stays due, in the block, too, and
-/// the next call gives it first: that call then goes on as this one would have, and ends at once where the board is at an address of the set.
-/// Without any room a board goes on up to the step that gives a sample, and then no further. What was asked in all stays, so `pac_live_exec`
-/// goes on from there to the time that it would have gone to.
-/// `Closed`. `TooLong`: the time would pass 2^52 T-states. `WrongLength`: `places` has neither 65,536 bytes nor none.
+/// Goes on until so many T-states are over from now, and at most 22 longer; or the board is before an address of the set; or a step wrote to a
+/// watched address, or read there as data; or the board can't go on; or the buffer has no room for the next sample. `ran.why` tells which of
+/// these. `places` has 65,536 bytes, one for each address, which isn't 0 where it is in the set; or none, and then no address is. `watched` has
+/// 65,536 bytes, too: 1 where writes to the address are watched, also of the byte that is there, 2 where reads of it are, 3 where both are; or
+/// none. A step that does both is told as a write. Addresses are as the program writes them: the mirrors of a cell are others. Where there is
+/// time, one step at least is done, so that the board goes on from an address that it is at. The samples go to the head of `samples`. What had
+/// no room stays due, in the block, too, and the next call gives it first: that call then goes on as this one would have, and ends at once
+/// where the board is at an address of the set. Without any room a board goes on up to the step that gives a sample, and then no further. What
+/// was asked in all stays, so `pac_live_exec` goes on from there to the time that it would have gone to.
+/// `Closed`. `TooLong`: the time would pass 2^52 T-states. `WrongLength`: `places` or `watched` has neither 65,536 bytes nor none.
 #[unsafe(no_mangle)]
 pub extern "C" fn pac_live_until(
     live: &mut PacLive,
     ticks: u32,
     places: &[u8],
+    watched: &[u8],
     samples: &mut [i16],
     ran: &mut PacUntil,
 ) -> u32
     ensures { Answers (λ answer. live_specs.Lives ((samples.new ≡ samples.old) × (ran.new ≡ ran.old))
-        (live_until_specs.Going places.now ticks samples.old samples.new ran.old ran.new) answer live.old live.new) result }
+        (live_until_specs.Going ticks places.now watched.now samples.old samples.new ran.old ran.new)
+        answer live.old live.new) result }
 {
-    code(live_until::until(live, ticks, places, samples, ran))
+    code(live_until::until(live, ticks, places, watched, samples, ran))
 }
 
 /// Writes what the processor would read at as many addresses as `bytes` has room for, the first of which is `address`: as `pac_peek`.

@@ -8,36 +8,18 @@ ghost use Rattle.pac_host.specs.LiveTime as live_time;
 
 use crate::live::PacLive;
 use crate::live_calls::check_open;
-use pac_block::block::{keep_run, open as open_block};
 use pac_block::ran::bytes_of;
-use pac_block::time::{check, run};
-use pac_block::{HostFault, PacBoard, RanBytes};
+use pac_block::time::{check, least_asked, run};
+use pac_block::{HostFault, RanBytes};
 use pac_board::{Board, Stop};
 
-/// Where a stop was met, forgets of what was asked of the board all but what meets the stop again. (By a block, for what was asked of a board
-/// only grows.)
-#[inline(never)]
-fn forget_missed(board: &mut Board, stop: &Option<Stop>)
-    requires { StopsEarly stop.now board.old.state }
-    ensures { board.new ≡ record board.old { state = host.state_left stop.now board.old.state } }
-{
-    let mut block = PacBoard { bytes: [0; 67_756] };
-    keep_run(board, stop, &mut block);
-    match open_block(&block) {
-        Ok(fields) => board.put_fields(&fields),
-        // never, since it is the block of a board
-        Err(_) => {}
-    }
-}
-
-/// The same, quickly where there was no stop.
+/// Where a stop was met, forgets of what was asked of the board all but what meets the stop again.
 fn keep_stop(board: &mut Board, stop: &Option<Stop>)
     requires { StopsEarly stop.now board.old.state }
     ensures { board.new ≡ record board.old { state = host.state_left stop.now board.old.state } }
 {
-    match stop {
-        Some(_) => forget_missed(board, stop),
-        None => {}
+    if stop.is_some() {
+        board.forget_asked(least_asked(board.time()));
     }
 }
 

@@ -1,4 +1,4 @@
--- Writes that are watched: those of a step over a bus that looks at them, and of steps one after another.
+-- What steps do at addresses that are watched: the writes of a step over a bus that looks at them, its reads, and steps one after another.
 use Rattle.std.proofs.Common.{◌≡◌, ℕ, zero, suc, ◌+◌, ◌-◌, ◌*◌, ◌<◌, ◌≤◌, nat_lt, nat_le, Bool, true, false, ◌&&◌, not, is_some, cond}
 use Rattle.std.proofs.Common.{List, [], ◌∷◌, ◌++◌, Option, None, Some, refl, sym, ap, subst, ◌∙◌, arith}
 use Rattle.std.proofs.lemmas.Bool.Decides.{nat_tests}
@@ -6,8 +6,9 @@ use Rattle.pac_cpu.specs.Action.{Action, Write, Output}
 use Rattle.pac_cpu.specs.ActionLaws.{bus_after_actions}
 use Rattle.pac_cpu.specs.Regs.{Regs}
 use Rattle.pac_cpu.specs.Step.{Surroundings, CpuStep, Steps, Stops, cpu_step, halted_step}
-use Rattle.pac_cpu.specs.StepLaws.{surroundings_of}
-use Rattle.pac_cpu.specs.StepProofs.{DoesCpuStep, actions_of, once_of_step}
+use Rattle.pac_cpu.specs.StepReads.{reads_in}
+use Rattle.pac_cpu.specs.StepLaws.{surroundings_of, once_of_step}
+use Rattle.pac_cpu.specs.StepProofs.{DoesCpuStep, actions_of}
 use Rattle.pac_cpu.specs.declared.once.Once.{Once}
 use Rattle.pac_cpu.specs.declared.once.Once.TheVariants.{Stepped, Stopped}
 use Rattle.pac_cpu.specs.declared.once.Stop.{Stop}
@@ -20,13 +21,13 @@ use Rattle.pac_board_model.specs.Step.{Moment, Next, surroundings, step}
 use Rattle.pac_board_model.specs.Trace.{by_view}
 use Rattle.pac_machine.specs.declared.trail.PastStep.{PastStep}
 use Rattle.pac_machine.specs.declared.watch.WatchedBus.{WatchedBus}
-use Rattle.pac_machine.specs.declared.watch.WatchedWrite.{WatchedWrite}
+use Rattle.pac_machine.specs.declared.watch.Access.{Access}
+use Rattle.pac_machine.specs.declared.watch.Access.TheVariants as access
 use Rattle.pac_machine.specs.StandingProofs.{BoardStanding}
 use Rattle.pac_machine.specs.BurstsProofs.{eventless_step, BurstsQuietly, is_waiting, next_line, line_end, burst_at}
 use Rattle.pac_machine.specs.Events.{Acts, part_of}
-use Rattle.pac_machine.specs.Stops.{is_stop}
 use Rattle.pac_machine.specs.Trails.{IsNoted, stepped}
-use Rattle.pac_machine.specs.Watches.{first_watched, watched_in, watched_at, IsWatched}
+use Rattle.pac_machine.specs.Watches.{first_of, first_read, first_write, watched_in, watched_at, watches_writes, IsWatched}
 use Rattle.pac_machine.specs.WatchesProofs.{looked_at, met_after, watched_byte_at, watched_input_at, watched_after_action}
 use Rattle.pac_machine.proofs.Batches.{surroundings-voiced, voiced_now, voices_after}
 use Rattle.pac_machine.proofs.Noted.{stepped-joined, waits-on, burst-within, told-at}
@@ -39,14 +40,20 @@ none-met (Some one) none = absurd (cc)
 
 -- ---- nothing is watched
 
-pub free-of-writes : (seen : Surroundings) (done left : List Action) → first_watched seen None done left ≡ None
+free-of-writes : (seen : Surroundings) (done left : List Action) → first_write seen None done left ≡ None
 free-of-writes seen done [] = refl
 free-of-writes seen done (Write address byte ∷ left) = free-of-writes seen (done ++ Write address byte ∷ []) left
 free-of-writes seen done (Output port byte ∷ left) = free-of-writes seen (done ++ Output port byte ∷ []) left
 
-pub unwatched : (seen : Surroundings) (part : CpuStep) → watched_in seen None part ≡ None
-unwatched seen (Steps regs actions ticks kind) = free-of-writes seen [] actions
-unwatched seen (Stops stop) = refl
+free-of-reads : (cells : List ℕ) → first_read None cells ≡ None
+free-of-reads [] = refl
+free-of-reads (address ∷ cells) = free-of-reads cells
+
+pub unwatched : (seen : Surroundings) (regs : Regs) (request : Option ℕ) (part : CpuStep) → watched_in seen None regs request part ≡ None
+unwatched seen regs request (Steps after actions ticks kind) =
+    ap (λ met. first_of met (first_read None (reads_in (Stepped ticks kind) regs request))) (free-of-writes seen [] actions)
+    ∙ free-of-reads (reads_in (Stepped ticks kind) regs request)
+unwatched seen regs request (Stops stop) = refl
 
 -- ---- the bus that looks at each write
 
@@ -74,18 +81,18 @@ seen-alike bus = λ i. record {
 }
 
 -- a write to what a bus keeps
-abbrev write_over : (address byte : ℕ) → Map → WatchedWrite
-write_over address byte before = record { address = address; before = map_byte_at before address; written = byte }
+abbrev write_over : (address byte : ℕ) → Map → Access
+write_over address byte before = access.Write address (map_byte_at before address) byte
 
 -- once one was met it stays
-met-stays : (bus : WatchedBus) (one : WatchedWrite) (actions : List Action) → bus.met ≡ Some one → (after_all bus actions).met ≡ Some one
+met-stays : (bus : WatchedBus) (one : Access) (actions : List Action) → bus.met ≡ Some one → (after_all bus actions).met ≡ Some one
 met-stays bus one [] met = met
 met-stays bus one (Output port byte ∷ actions) met = met-stays (watched_after_action bus (Output port byte)) one actions met
 met-stays bus one (Write address byte ∷ actions) met =
-    met-stays (watched_after_action bus (Write address byte)) one actions (here (is_stop (Some bus.marks.now) address))
+    met-stays (watched_after_action bus (Write address byte)) one actions (here (watches_writes (Some bus.marks.now) address))
   where
     here : (b : Bool) → cond (b && not (is_some bus.met)) (Some (write_over address byte bus.map.now)) bus.met ≡ Some one
-    here true = ap (λ (m : Option WatchedWrite). cond (not (is_some m)) (Some (write_over address byte bus.map.now)) m) met
+    here true = ap (λ (m : Option Access). cond (not (is_some m)) (Some (write_over address byte bus.map.now)) m) met
     here false = met
 
 done-more : (map : Map) (done : List Action) (action : Action)
@@ -94,34 +101,34 @@ done-more map [] action = refl
 done-more map (first ∷ done) action = done-more (map_after_action map first) done action
 
 met-first : (map : Map) (bus : WatchedBus) (done left : List Action) → bus.map.now ≡ bus_after_actions map_after_action map done
-    → bus.met ≡ None → (after_all bus left).met ≡ first_watched (seen_by map) (Some bus.marks.now) done left
+    → bus.met ≡ None → (after_all bus left).met ≡ first_write (seen_by map) (Some bus.marks.now) done left
 met-first map bus done [] there none = none
 met-first map bus done (Output port byte ∷ left) there none =
     met-first map (watched_after_action bus (Output port byte)) (done ++ Output port byte ∷ []) left
     (ap (λ m. map_after_action m (Output port byte)) there ∙ sym (done-more map done (Output port byte))) none
 met-first map bus done (Write address byte ∷ left) there none =
     let after_is = ap (λ m. map_after_action m (Write address byte)) there ∙ sym (done-more map done (Write address byte)) in
-    here (is_stop (Some bus.marks.now) address) refl
+    here (watches_writes (Some bus.marks.now) address) refl
     (met-first map (watched_after_action bus (Write address byte)) (done ++ Write address byte ∷ []) left after_is)
   where
-    kept : (b : Bool) → is_stop (Some bus.marks.now) address ≡ b → (watched_after_action bus (Write address byte)).met ≡ cond b (Some (write_over address byte bus.map.now)) None
+    kept : (b : Bool) → watches_writes (Some bus.marks.now) address ≡ b → (watched_after_action bus (Write address byte)).met ≡ cond b (Some (write_over address byte bus.map.now)) None
     kept true is =
         ap (λ b. cond (b && not (is_some bus.met)) (Some (write_over address byte bus.map.now)) bus.met) is
-        ∙ ap (λ (m : Option WatchedWrite). cond (not (is_some m)) (Some (write_over address byte bus.map.now)) m) none
+        ∙ ap (λ (m : Option Access). cond (not (is_some m)) (Some (write_over address byte bus.map.now)) m) none
     kept false is = ap (λ b. cond (b && not (is_some bus.met)) (Some (write_over address byte bus.map.now)) bus.met) is ∙ none
 
-    found : (b : Bool) → is_stop (Some bus.marks.now) address ≡ b
-        → first_watched (seen_by map) (Some bus.marks.now) done (Write address byte ∷ left)
+    found : (b : Bool) → watches_writes (Some bus.marks.now) address ≡ b
+        → first_write (seen_by map) (Some bus.marks.now) done (Write address byte ∷ left)
         ≡ cond b (Some (write_over address byte (bus_after_actions map_after_action map done)))
-        (first_watched (seen_by map) (Some bus.marks.now) (done ++ Write address byte ∷ []) left)
+        (first_write (seen_by map) (Some bus.marks.now) (done ++ Write address byte ∷ []) left)
     found b is =
         ap (λ b. cond b (Some (write_over address byte (bus_after_actions map_after_action map done)))
-        (first_watched (seen_by map) (Some bus.marks.now) (done ++ Write address byte ∷ []) left)) is
+        (first_write (seen_by map) (Some bus.marks.now) (done ++ Write address byte ∷ []) left)) is
 
-    here : (b : Bool) → is_stop (Some bus.marks.now) address ≡ b
+    here : (b : Bool) → watches_writes (Some bus.marks.now) address ≡ b
         → ((watched_after_action bus (Write address byte)).met ≡ None → (after_all (watched_after_action bus (Write address byte)) left).met
-        ≡ first_watched (seen_by map) (Some bus.marks.now) (done ++ Write address byte ∷ []) left)
-        → (after_all (watched_after_action bus (Write address byte)) left).met ≡ first_watched (seen_by map) (Some bus.marks.now) done (Write address byte ∷ left)
+        ≡ first_write (seen_by map) (Some bus.marks.now) (done ++ Write address byte ∷ []) left)
+        → (after_all (watched_after_action bus (Write address byte)) left).met ≡ first_write (seen_by map) (Some bus.marks.now) done (Write address byte ∷ left)
     here true is more =
         met-stays (watched_after_action bus (Write address byte)) (write_over address byte bus.map.now) left (kept true is)
         ∙ ap (λ before. Some (write_over address byte before)) there ∙ sym (found true is)
@@ -149,37 +156,42 @@ module _ (bus new : WatchedBus) (regs left : Regs) (request : Option ℕ) (once 
   pub watched-name : new.map.ghost_name ≡ bus.map.ghost_name
   watched-name = ap (λ (b : WatchedBus). b.map.ghost_name) did_alike.bus ∙ name-kept bus (actions_of part)
 
-  pub watched-met : bus.met ≡ None → new.met ≡ watched_in (seen_by bus.map.now) (Some bus.marks.now) part
-  watched-met none = ap (λ (b : WatchedBus). b.met) did_alike.bus ∙ here part
-    where
-      here : (h : CpuStep) → (after_all bus (actions_of h)).met ≡ watched_in (seen_by bus.map.now) (Some bus.marks.now) h
-      here (Steps after actions ticks kind) = met-first bus.map.now bus [] actions refl none
-      here (Stops stop) = none
+  pub written-met : bus.met ≡ None → new.met ≡ first_write (seen_by bus.map.now) (Some bus.marks.now) [] (actions_of part)
+  written-met none = ap (λ (b : WatchedBus). b.met) did_alike.bus ∙ met-first bus.map.now bus [] (actions_of part) refl none
+
+-- a step's writes, and then its reads
+pub read-after : (seen : Surroundings) (marks : Option (List ℕ)) (regs : Regs) (request : Option ℕ) (part : CpuStep)
+    → watched_in seen marks regs request part
+    ≡ first_of (first_write seen marks [] (actions_of part)) (first_read marks (reads_in (once_of_step part) regs request))
+read-after seen marks regs request (Steps after actions ticks kind) = refl
+read-after seen marks regs request (Stops stop) = refl
 
 -- ---- the processor's part of a step
 
 pub acts-watched : (map : Map) (regs : Regs) (accumulators : Accumulators) (lines : List (List ℕ)) (marks : Option (List ℕ))
     (request asked : Option ℕ) → request ≡ asked
-    → watched_in (seen_by map) marks (cpu_step (seen_by map) regs request)
-    ≡ watched_in (surroundings (by_view map.set) (board_of map accumulators lines)) marks
+    → watched_in (seen_by map) marks regs request (cpu_step (seen_by map) regs request)
+    ≡ watched_in (surroundings (by_view map.set) (board_of map accumulators lines)) marks regs asked
     (cpu_step (surroundings (by_view map.set) (board_of map accumulators lines)) regs asked)
 acts-watched map regs accumulators lines marks request asked same =
-    λ i. watched_in (surroundings-agree map accumulators lines i) marks (cpu_step (surroundings-agree map accumulators lines i) regs (same i))
+    λ i.
+    let seen = surroundings-agree map accumulators lines i in
+    watched_in seen marks regs (same i) (cpu_step seen regs (same i))
 
--- a stop writes nothing
-pub stop-writes-nothing : (self mid : BoardStanding) (once : Once) (stop : Stop) (marks : Option (List ℕ)) → Acts self mid once
+-- a stop does nothing
+pub stop-does-nothing : (self mid : BoardStanding) (once : Once) (stop : Stop) (marks : Option (List ℕ)) → Acts self mid once
     → once ≡ Stopped stop → watched_at self.set marks self.now ≡ None
-stop-writes-nothing self mid once stop marks acts is = here (part_of self) (sym is ∙ acts.once_is)
+stop-does-nothing self mid once stop marks acts is = here (part_of self) (sym is ∙ acts.once_is)
   where
     here : (h : CpuStep) → Stopped stop ≡ once_of_step h
-        → watched_in (surroundings (by_view self.set) self.now.board) marks h ≡ None
+        → watched_in (surroundings (by_view self.set) self.now.board) marks self.now.regs ((by_view self.set).request self.now.board) h ≡ None
     here (Steps regs actions ticks kind) told = absurd (cc)
     here (Stops other) told = refl
 
 -- ---- one step after another
 
 module _ (set : Parts) (marks : Option (List ℕ)) (next : Moment BoardView → Next BoardView) (from : Moment BoardView) where
-  abbrev Watched : (steps : ℕ) (met : Option WatchedWrite) → Type 0
+  abbrev Watched : (steps : ℕ) (met : Option Access) → Type 0
   Watched = IsWatched set marks next from
 
   pub watched-first : (steps : ℕ) → steps ≡ from.steps → Watched steps None
@@ -190,7 +202,7 @@ module _ (set : Parts) (marks : Option (List ℕ)) (next : Moment BoardView → 
   }
 
   -- one more
-  pub watched-on : {until : ℕ} {to : Moment BoardView} {told after : Option (List PastStep)} (met : Option WatchedWrite)
+  pub watched-on : {until : ℕ} {to : Moment BoardView} {told after : Option (List PastStep)} (met : Option Access)
       → IsNoted next until from to told after → Watched to.steps None → watched_at set marks to ≡ met → Watched (to.steps + 1) met
   watched-on {until} {to} met so_far watched one =
       let so_many = so_far.steps in
@@ -208,7 +220,7 @@ module _ (set : Parts) (marks : Option (List ℕ)) (next : Moment BoardView → 
       before n few false e = watched.last n (grind (arith, nat_tests))
 
   -- some, and then some more
-  pub watched-more : {until : ℕ} {mid : Moment BoardView} {told between : Option (List PastStep)} (steps : ℕ) (met : Option WatchedWrite)
+  pub watched-more : {until : ℕ} {mid : Moment BoardView} {told between : Option (List PastStep)} (steps : ℕ) (met : Option Access)
       → IsNoted next until from mid told between → Watched mid.steps None → mid.steps ≤ steps → IsWatched set marks next mid steps met
       → Watched steps met
   watched-more {until} {mid} {told} steps met one watched later more =
@@ -269,9 +281,10 @@ waits-watched old until n marks waiting soon = record {
     seen = surroundings (by_view old.set) old.now.board
 
     still : (regs : Regs) → regs.halted ≡ true → (regs.iff1 && is_some ((by_view old.set).request old.now.board)) ≡ false
-        → watched_in seen marks (cpu_step seen regs ((by_view old.set).request old.now.board)) ≡ None
+        → watched_in seen marks regs ((by_view old.set).request old.now.board)
+        (cpu_step seen regs ((by_view old.set).request old.now.board)) ≡ None
     still regs halted none =
-        ap (watched_in seen marks) (halted-part seen regs ((by_view old.set).request old.now.board) halted none)
+        ap (watched_in seen marks regs ((by_view old.set).request old.now.board)) (halted-part seen regs ((by_view old.set).request old.now.board) halted none)
 
     quiet : (m : ℕ) → m < n → watched_at old.set marks (stepped (eventless_step (by_view old.set)) old.now m) ≡ None
     quiet zero less = still old.now.regs facts.0 facts.1
@@ -288,10 +301,10 @@ watched-voiced : (set : Parts) (marks : Option (List ℕ)) (all : Accumulators) 
     → watched_at set marks (voiced_now set all now) ≡ watched_at set marks now
 watched-voiced set marks all now = λ i.
     let seen = surroundings-voiced set all now.board i in
-    watched_in seen marks (cpu_step seen now.regs ((by_view set).request now.board))
+    watched_in seen marks now.regs ((by_view set).request now.board) (cpu_step seen now.regs ((by_view set).request now.board))
 
 pub stretch-watched : (old mid : BoardStanding) (limit begun steps : ℕ) (stop : Option Stop) (marks : Option (List ℕ))
-    (met : Option WatchedWrite) (told after : Option (List PastStep)) → BurstsQuietly old (line_end limit old.now.time) mid stop begun
+    (met : Option Access) (told after : Option (List PastStep)) → BurstsQuietly old (line_end limit old.now.time) mid stop begun
     → IsNoted (eventless_step (by_view old.set)) (line_end limit old.now.time) old.now mid.now told after
     → IsWatched old.set marks (eventless_step (by_view old.set)) old.now mid.now.steps met → steps ≡ mid.now.steps
     → IsWatched old.set marks (step (by_view old.set)) old.now steps met

@@ -21,4 +21,4 @@ pub use machine::Machine;
 pub use stops::{Marks, Stops};
 pub use timing::{FRAME_SAMPLES, FRAME_TICKS, SAMPLE_TICKS};
 pub use trail::{PastStep, Trail};
-pub use watch::{Unwatched, Watch, WatchedAddresses, WatchedWrite};
+pub use watch::{Access, Unwatched, Watch, WatchedAddresses};

@@ -1,4 +1,4 @@
--- The call, by the set and the time.
+-- The call, by the set, the map and the time.
 use Rattle.std.proofs.Common.{◌+◌, ℕ, ap, ◌∙◌, arith}
 use Rattle.pac_host.proofs.UntilEnds.{gone-same}
 use Rattle.pac_host.proofs.live_until.until_board.Goals as goal
@@ -6,11 +6,13 @@ use Rattle.pac_host.proofs.live_until.until_board.Goals as goal
 pub returns : goal.returns
 returns c =
     let set = c.in_ok-stops.ensures in
+    let map = c.in_ok-marks.ensures in
     let limit = c.in_ok-limit.ensures in
     let last = limit.0 ∙ ap (λ (time : ℕ). time + c.args.ticks) c.time.ensures.time in
     let within = limit.1 in
     record {
       set = set.0;
+      map = map.0;
       within = omega (arith, last, within);
-      gone = gone-same set.1 last c.go_told.ensures;
+      gone = gone-same set.1 map.1 last c.go_by.ensures;
     }

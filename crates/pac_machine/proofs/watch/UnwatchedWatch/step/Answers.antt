@@ -9,4 +9,4 @@ use Rattle.pac_machine.proofs.watch.UnwatchedWatch.step.Goals as goal
 pub returns-clause-met : goal.returns-clause-met
 returns-clause-met c =
     let seen = surroundings_of map_byte_at map_input_at map_after_action c.args.map.now in
-    λ none. sym (unwatched seen (cpu_step seen c.args.cpu.now c.args.request))
+    λ none. sym (unwatched seen c.args.cpu.now c.args.request (cpu_step seen c.args.cpu.now c.args.request))

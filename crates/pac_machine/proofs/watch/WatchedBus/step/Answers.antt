@@ -1,5 +1,5 @@
 -- The processor's step over the bus that looks at each write.
-use Rattle.pac_machine.proofs.Watched.{watched-did, watched-met, watched-name}
+use Rattle.pac_machine.proofs.Watched.{watched-did, written-met, watched-name}
 use Rattle.pac_machine.proofs.watch.WatchedBus.step.Goals as goal
 
 pub returns-clause-same : goal.returns-clause-same
@@ -12,4 +12,4 @@ returns-clause-did c =
 
 pub returns-clause-met : goal.returns-clause-met
 returns-clause-met c =
-    watched-met c.args.self.now c.step.new.bus c.args.cpu.now c.step.new.self c.args.request c.step.result c.step.ensures.did
+    written-met c.args.self.now c.step.new.bus c.args.cpu.now c.step.new.self c.args.request c.step.result c.step.ensures.did
