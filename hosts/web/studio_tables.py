@@ -37,12 +37,10 @@ def ticks() -> dict[str, list[str]]:
 
 
 def forms() -> dict[str, list[str]]:
-    """The forms of each operation, as docs/ASSEMBLER.md has them."""
-    section = facts.PAGE.read_text().partition("## Instructions")[2].partition("\nOther spellings")[0]
+    """The forms of each operation in short."""
     found: dict[str, list[str]] = {}
-    for form in re.findall(r"`([A-Z]+(?: [^`]*)?)`", section):
-        if form.split()[0] in judge_source.MNEMONICS:
-            found.setdefault(form.split()[0], []).append(form)
+    for form in facts.FORMS:
+        found.setdefault(form.split()[0], []).append(form)
     return found
 
 

@@ -1,4 +1,5 @@
-"""The expressions of other assemblers: how each writes numbers and operators, in which rank, and what they come to. For bin/translate.
+"""The parts of other assemblers' lines, and their expressions: how each writes numbers and operators, in which rank, and what they come to. For
+bin/translate.
 
 What is here was taken from the manuals of pasmo 0.5.3, z80asm 1.8, the GNU assembler for the Z80, sdasz80 of SDCC and sjasmplus, and, but for the last,
 tried against the programs themselves.
@@ -122,6 +123,44 @@ def quoted(text: str) -> str:
         else:
             at += 1
     return ""
+
+
+def parted(text: str, dialect: Dialect | None = None) -> list[str]:
+    """The parts of a text between commas, outside of quotes and groups."""
+    found, depth, begin, at = list[str](), 0, 0, 0
+    while at < len(text):
+        if dialect and dialect.name == "sdas" and text[at] == "'" and not quoted(text[at : at + 3]):
+            at += 2  # a character, which nothing closes
+            continue
+        text_there = quoted(text[at:]) if text[at] in "'\"" and not text[:at].upper().rstrip().endswith("AF") else ""
+        if text_there:
+            at += len(text_there)
+            continue
+        depth += {"(": 1, "[": 1, "<": 0, ")": -1, "]": -1}.get(text[at], 0)
+        if text[at] == "," and depth == 0:
+            found.append(text[begin:at].strip())
+            begin = at + 1
+        at += 1
+    rest = text[begin:].strip()
+    return [*found, rest] if rest or found else []
+
+
+def without_comment(text: str, dialect: Dialect) -> tuple[str, str]:
+    """A line without its comment, and the comment."""
+    at = 0
+    if dialect.name == "gas" and text.lstrip().startswith("#"):
+        return "", text.lstrip()[1:].strip()
+    while at < len(text):
+        if text[at] == ";" or text.startswith("//", at) and dialect.name in ("sjasmplus", "gas"):
+            return text[:at].rstrip(), text[at:].lstrip(";/").strip()
+        there = quoted(text[at:]) if text[at] in "'\"" else ""
+        if there and not (text[at] == "'" and re.search(r"\bAF$", text[:at], re.I)):
+            at += len(there)
+        elif dialect.name == "sdas" and text[at] == "'" and at + 1 < len(text):
+            at += 2
+        else:
+            at += 1
+    return text.rstrip(), ""
 
 
 class Reader:

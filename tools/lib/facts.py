@@ -11,7 +11,7 @@ from typing import Any
 
 import judge_source as judge
 
-PAGE = pathlib.Path(__file__).resolve().parents[2] / "docs/ASSEMBLER.md"
+FORMS = [form.strip() for form in re.split(r"[;\n]", re.sub(r"#.*", "", pathlib.Path(__file__).with_name("forms.txt").read_text())) if form.strip()]
 OPERATIONS = judge.MNEMONICS | judge.DIRECTIVES
 JUMPS = {"JP", "JR", "CALL", "DJNZ"}
 ALONE = set(judge.CONDITIONS) - {"C"}  # conditions that no register has the name of
@@ -183,9 +183,8 @@ class Refused:
 
     @functools.cached_property
     def forms(self) -> list[str]:
-        """The forms of its operation, as the page has them."""
-        section = PAGE.read_text().partition("## Instructions")[2].partition("\nOther spellings")[0]
-        return re.findall(rf"`({self.operation}(?: [^`]*)?)`", section) if self.operation else []
+        """The forms of its operation in short."""
+        return [form for form in FORMS if form.split()[0] == self.operation]
 
     def second_operands(self) -> list[str]:
         """What the second operand may be after the first."""

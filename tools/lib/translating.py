@@ -12,12 +12,14 @@ from dataclasses import dataclass, field
 
 import dialects
 import judge_source as judge
-from dialects import Dialect, Fault, Reader, Tree, Unknown
+import repetitions
+from dialects import Dialect, Fault, Reader, Tree, Unknown, parted, without_comment
 
 PASSES = 12
 DEEPEST = 40  # files and macros within one another
 LONGEST = 65_535  # lines that a source may have
 MOST_LINES = 2 * LONGEST  # lines that macros and repetitions may make, most of which say nothing
+TOO_MANY = "a repetition of more lines than a source may have"
 LIMIT = 0x4000  # where the ROM ends
 WIDE = 235  # bytes of a line that is written, with its comment
 UNDOCUMENTED = {"SLL", "SLI", "SL1", "SLS"}
@@ -89,44 +91,6 @@ class Item:
     value: Tree | None = None
     comment: str = ""
     heres: list[int] = field(default_factory=list)
-
-
-def parted(text: str, dialect: Dialect | None = None) -> list[str]:
-    """The parts of a text between commas, outside of quotes and groups."""
-    found, depth, begin, at = list[str](), 0, 0, 0
-    while at < len(text):
-        if dialect and dialect.name == "sdas" and text[at] == "'" and not dialects.quoted(text[at : at + 3]):
-            at += 2  # a character, which nothing closes
-            continue
-        text_there = dialects.quoted(text[at:]) if text[at] in "'\"" and not text[:at].upper().rstrip().endswith("AF") else ""
-        if text_there:
-            at += len(text_there)
-            continue
-        depth += {"(": 1, "[": 1, "<": 0, ")": -1, "]": -1}.get(text[at], 0)
-        if text[at] == "," and depth == 0:
-            found.append(text[begin:at].strip())
-            begin = at + 1
-        at += 1
-    rest = text[begin:].strip()
-    return [*found, rest] if rest or found else []
-
-
-def without_comment(text: str, dialect: Dialect) -> tuple[str, str]:
-    """A line without its comment, and the comment."""
-    at = 0
-    if dialect.name == "gas" and text.lstrip().startswith("#"):
-        return "", text.lstrip()[1:].strip()
-    while at < len(text):
-        if text[at] == ";" or text.startswith("//", at) and dialect.name in ("sjasmplus", "gas"):
-            return text[:at].rstrip(), text[at:].lstrip(";/").strip()
-        there = dialects.quoted(text[at:]) if text[at] in "'\"" else ""
-        if there and not (text[at] == "'" and re.search(r"\bAF$", text[:at], re.I)):
-            at += len(there)
-        elif dialect.name == "sdas" and text[at] == "'" and at + 1 < len(text):
-            at += 2
-        else:
-            at += 1
-    return text.rstrip(), ""
 
 
 def number_text(value: int) -> str:
@@ -391,6 +355,13 @@ class Translation:
         operation = word[0] if word else ""
         return labels, operation, rest[len(operation) :].strip()
 
+    def said(self, text: str) -> tuple[str, list[str], str, str]:
+        """A line's comment, its labels, its operation, and what follows, with what its names are defined to be."""
+        text, comment = without_comment(text, self.dialect)
+        for name, word in self.defines.items():
+            text = re.sub(rf"(?<![\w.$?@'\"]){re.escape(name)}(?![\w.$?@'\"])", word.replace("\\", r"\\"), text)
+        return comment, *self.parts(text)
+
     def branch(self, kind: str, rest: str, line: Line) -> bool:
         """Does what a line says of conditions: whether it says anything of them."""
         counts = all(one[0] for one in self.branches)
@@ -423,10 +394,7 @@ class Translation:
 
     def take(self, line: Line) -> None:
         """Does what a line says."""
-        text, comment = without_comment(line.text, self.dialect)
-        for name, word in self.defines.items():
-            text = re.sub(rf"(?<![\w.$?@'\"]){re.escape(name)}(?![\w.$?@'\"])", word.replace("\\", r"\\"), text)
-        labels, operation, rest = self.parts(text)
+        comment, labels, operation, rest = self.said(line.text)
         kind = self.kind(operation)
         if self.branch(kind, rest, line):
             return
@@ -489,8 +457,10 @@ class Translation:
                 given: Iterable[str] = (str((first + step * at) % 0x10000) for at in range(count))
             else:
                 given = [word.strip("<>") for word in (words[1:] if kind == "irp" else words[1] if len(words) > 1 else "")]
-                names = words[:1]
+                count, names = len(given), words[:1]
             body, local_names = self.own(lines)
+            if count > 1 and self.lines + count * repetitions.fewest(self, body, names, line) > MOST_LINES:
+                raise Fault(TOO_MANY)
             self.repeat(Macro(names, {}, body, local_names), iter(given), line, len(self.branches))
         else:
             self.assign(kind, labels, rest, line, comment)
@@ -717,7 +687,7 @@ class Translation:
                 continue
             self.lines += 1
             if self.lines > MOST_LINES:
-                raise Refused(line.file, line.number, "a repetition of more lines than a source may have")
+                raise Refused(line.file, line.number, TOO_MANY)
             try:
                 self.take(line)
             except RecursionError:

@@ -2,6 +2,7 @@ pub mod Vectors
 pub mod Decimals
 pub mod DaaLines
 pub mod Manual
+pub mod ReadLines
 pub mod DaaTable
 pub mod LoadsOfBytes
 pub mod LoadsOfWordsAndTheStack

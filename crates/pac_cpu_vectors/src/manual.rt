@@ -3,6 +3,7 @@
 ghost use Rattle.pac_cpu_vectors.specs.Decimals.{EachDaaIsByBits};
 ghost use Rattle.pac_cpu_vectors.specs.DaaLines.{EachDaaLineHolds};
 ghost use Rattle.pac_cpu_vectors.specs.Manual.{CopiesBlocks, SearchesBlocks, InputsBlocks, OutputsBlocks, RotatesA, AdjustsDecimals, AcceptsInModes, AcceptsRestarts, OnlyTheseAreRestarts};
+ghost use Rattle.pac_cpu_vectors.specs.ReadLines.{EachReadLineHolds};
 
 /// LDI, LDD, LDIR and LDDR (UM0080, "Exchange, Block Transfer, and Search Group").
 pub fn block_copies()
@@ -42,4 +43,9 @@ pub fn acceptances()
     ensures modes { AcceptsInModes }
     ensures restarts { AcceptsRestarts }
     ensures no_others { OnlyTheseAreRestarts }
+{}
+
+/// Which cells of memory a step reads as data (UM0080, "Z80 Instruction Description" and "Interrupt Response").
+pub fn data_reads()
+    ensures { EachReadLineHolds }
 {}
