@@ -337,7 +337,7 @@ def main(words: list[str]) -> int:
         try_kept()
         if words:
             try_symbols(room, pathlib.Path(words[0]))
-    return count.end(50)
+    return count.end(70)
 
 
 if __name__ == "__main__":
