@@ -5,8 +5,8 @@
  * bytes are a call, and a number for it, the low byte first. The laws:
  *
  * - cut time is whole time: two calls for a part each give the samples of one call for both, and the same block;
- * - and so it is on a live board, by whatever calls of pac_live_until and pac_live_step it is cut: these end at an address of their set, with
- *   their time over, at a stop, or with a full buffer;
+ * - and so it is on a live board, by whatever calls of pac_live_until and pac_live_step it is cut: these end at an address of their set, past a
+ *   watched access, with their time over, at a stop, or with a full buffer;
  * - a board that is saved and loaded is the same board, but for what is held, which a file doesn't keep;
  * - a copy goes on as the board does, and draws the same picture;
  * - a call that is refused changes neither the block nor a buffer;
@@ -79,10 +79,10 @@ static void run(pac_board *board, uint32_t microseconds)
 /* Cuts so much time of a live board: how many samples it gives at most so far, of which there is room for some more. */
 static uint32_t cut(pac_live *live, uint64_t ticks, uint32_t some, int16_t *samples)
 {
-    static uint8_t places[1 << 16];
+    static uint8_t places[1 << 16], watched[1 << 16];
     uint32_t heard = 0;
     for (size_t at = 0; at < sizeof places; at++)
-        places[at] = at % 61 == some % 61;
+        places[at] = at % 61 == some % 61, watched[at] = (uint8_t)(at % 31 == some % 31 ? some : 0);
     for (uint32_t cuts = 0; cuts < CUTS && ticks > 2 * LONGEST; cuts++) {
         pac_until ran = {0};
         pac_ran step = {0};
@@ -94,11 +94,13 @@ static uint32_t cut(pac_live *live, uint64_t ticks, uint32_t some, int16_t *samp
             continue;
         }
         uint32_t asked = (some >> 8) % (uint32_t)(ticks - LONGEST), room = some >> 29 & 1 ? ROOM - heard : (some >> 4) % 40 % (ROOM - heard);
-        size_t size = some >> 28 & 1 ? sizeof places : 0;
-        holds(pac_live_until(live, asked, places, size, samples + heard, room, &ran) == PAC_DONE && ran.samples <= room && ran.ticks < asked + LONGEST);
+        size_t size = some >> 28 & 1 ? sizeof places : 0, seen = some >> 27 & 1 ? sizeof watched : 0;
+        holds(pac_live_until(live, asked, places, size, watched, seen, samples + heard, room, &ran) == PAC_DONE);
+        holds(ran.samples <= room && ran.ticks < asked + LONGEST);
         holds(pac_live_registers(live, &now) == PAC_DONE && now.pc == ran.pc && (ran.why == PAC_UNTIL_STOP) == (ran.stop != PAC_GOES));
         holds(ran.why != PAC_UNTIL_PLACE || (size != 0 && places[ran.pc] != 0));
         holds(ran.why != PAC_UNTIL_TIME || ran.ticks >= asked);
+        holds((ran.why != PAC_UNTIL_ACCESS || ran.access != 0) && (ran.access == 0 || (seen != 0 && (watched[ran.address] & ran.access) != 0)));
         holds(ran.why != PAC_UNTIL_FULL || ran.samples == room);
         heard += ran.samples, ticks -= ran.ticks;
     }

@@ -44,6 +44,7 @@ reset          does what the watchdog does
 """
 BEGIN, TRAP, BREAK, INTERRUPT, STOPPED = "T05replaylog:begin;", "S05", "T05swbreak:;", "S02", "S04"
 WHY = {pacboard.UNTIL_TIME: TRAP, pacboard.UNTIL_PLACE: BREAK, pacboard.UNTIL_STOP: STOPPED}
+WATCHES = {"2": ("watch", pacboard.WRITE), "3": ("rwatch", pacboard.READ), "4": ("awatch", pacboard.WRITE | pacboard.READ)}  # by their numbers in packets
 
 
 def roms_of(content: str) -> bytes:
@@ -70,8 +71,20 @@ class Board(pacboard.LiveBoard):
     def __init__(self, roms: bytes, switches: int) -> None:
         """A board at power-on."""
         super().__init__(roms, switches)
-        self.places, self.kept = bytearray(1 << 16), list[Kept]()
+        self.kept = list[Kept]()
+        self.clear()
         self.keep(is_changed=True)
+
+    def clear(self) -> None:
+        """Takes breakpoints and watchpoints away."""
+        self.places, self.watched, self.watches = bytearray(1 << 16), bytearray(1 << 16), set[tuple[str, int]]()
+
+    def watch(self, kind: str, address: int, is_set: bool) -> None:
+        """Sets a watchpoint of a kind, or takes it away."""
+        (self.watches.add if is_set else self.watches.discard)((kind, address))
+        self.watched[address] = 0
+        for one in (one for one, at in self.watches if at == address):
+            self.watched[address] |= WATCHES[one][1]
 
     @property
     def time(self) -> int:
@@ -99,18 +112,20 @@ class Board(pacboard.LiveBoard):
         if len(self.kept) > MOST_KEPT:
             self.kept = [one for at, one in enumerate(self.kept) if at % 2 == 0 or one.is_changed]
 
-    def go_to(self, time: int, places: bytes | bytearray = b"") -> str:
-        """Goes on to a time, to a place after a step at least, or to a stop."""
-        return WHY[self.until(max(time - self.time, 0), places)[0].why]
+    def go_to(self, time: int, heeds: bool = False) -> str:
+        """Goes on to a time, or to a stop; and where it heeds them, to a breakpoint, after a step at least, or past what a watchpoint watches."""
+        ran, _ = self.until(max(time - self.time, 0), self.places if heeds else b"", watched=self.watched if heeds else b"")
+        kinds = (WATCHES[kind] for kind, at in sorted(self.watches) if at == ran.address)
+        return WHY.get(ran.why) or next(f"T05{name}:{ran.address:04x};" for name, accesses in kinds if accesses & ran.access)
 
     def go(self, time: int) -> str:
-        """Goes on to a time, a breakpoint or a stop."""
-        why = self.go_to(time, self.places)
+        """Goes on to a time, a breakpoint, a watchpoint or a stop."""
+        why = self.go_to(time, heeds=True)
         self.keep()
         return why
 
     def go_on(self, is_called: Callable[[], bool]) -> str:
-        """Goes on to a breakpoint, a stop, or where gdb calls."""
+        """Goes on to a breakpoint, a watchpoint, a stop, or where gdb calls."""
         while (why := self.go(self.time + STRETCH)) == TRAP:
             if is_called():
                 return INTERRUPT
@@ -135,30 +150,40 @@ class Board(pacboard.LiveBoard):
         if (time := self.time) <= self.kept[0].time:
             return BEGIN
         self.back_before(time)
+        self.go_before(time)
+        return TRAP
+
+    def go_before(self, time: int) -> None:
+        """Goes on to the last moment before a time, which is later than now."""
         self.go_to(time - LONGEST_STEP)
         while self.time < time:
             block = self.block
             self.step()
         self.block = block
-        return TRAP
 
-    def last_break(self, time: int) -> int | None:
-        """Goes on to a time: that of the last moment before it, from now on, at which the program is at a breakpoint."""
-        found, is_at = None, self.places[self.registers().pc] != 0
-        while (now := self.time) < time:
-            found, is_at = now if is_at else found, self.go_to(time, self.places) == BREAK
+    def last_stop(self, time: int) -> tuple[int, str]:
+        """Goes on to a time: when from now on the last breakpoint comes before it, or the last watched access is over, and which of these it is."""
+        found = time, TRAP
+        while (now := self.registers()).time < time:
+            if self.places[now.pc]:
+                found = now.time, BREAK
+            if (why := self.go_to(time, heeds=True)) not in WHY.values():
+                found = self.time, why
         return found
 
     def go_back(self) -> str:
-        """Goes back to the last moment at a breakpoint, or to the first that is known."""
+        """Goes back to the last moment at a breakpoint or before a watched access, or to the first that is known."""
         time = self.time
         while time > self.kept[0].time:
             self.back_before(time)
-            found = self.last_break(time)
+            found, why = self.last_stop(time)
             self.block = self.kept[-1].block
-            if found is not None:
-                self.go_to(found)
-                return BREAK
+            if why != TRAP:
+                if why == BREAK:
+                    self.go_to(found)
+                else:
+                    self.go_before(found)
+                return why
             time = self.kept[-1].time
         return BEGIN
 
@@ -210,7 +235,7 @@ def register(text: str) -> list[int]:
 
 
 def memory(board: Board, packet: str) -> str:
-    """Reads or writes memory or registers, or sets a breakpoint."""
+    """Reads or writes memory or registers, or sets a breakpoint or a watchpoint."""
     kind, words = packet[0], re.split("[:=,]", packet[1:])
     if kind in "gp":
         return bytes(board.block[place] for place in (PLACES if kind == "g" else register(words[0]))).hex()
@@ -225,6 +250,10 @@ def memory(board: Board, packet: str) -> str:
         board.change([*PLACES] if kind == "G" else register(words[0]), bytes.fromhex(words[-1]))
     elif words[0] in ("0", "1"):
         board.places[number(words[1], 0xFFFF)] = kind == "Z"
+    elif words[0] in WATCHES:
+        first = number(words[1], 0xFFFF)
+        for address in range(first, first + number(words[2], 0x10000 - first)):
+            board.watch(words[0], address, kind == "Z")
     else:
         return ""
     return "OK"
@@ -319,7 +348,7 @@ def main() -> int:
                         serve(board, Line(peer))
                     except OSError:
                         pass  # (gdb is gone)
-                board.places = bytearray(1 << 16)
+                board.clear()
                 if words.once:
                     return 0
     except (OSError, ValueError, OverflowError, subprocess.CalledProcessError) as error:

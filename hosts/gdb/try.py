@@ -139,12 +139,12 @@ def try_questions(one: Client) -> None:
     row("the target's description", target.findtext("architecture") == "z80" and [reg.get("name") for reg in target.iter("reg")] == NAMES)
     row("a thread", (one.ask("qfThreadInfo"), one.ask("qsThreadInfo"), one.ask("qC"), one.ask("Hg0")) == ("m1", "l", "QC1", "OK"))
     row("why it stands", one.ask("?") == "S05")
-    for packet in ("vMustReplyEmpty", "vCont?", "X0,0:", "qNone", "Z2,4c00,1", "!"):
+    for packet in ("vMustReplyEmpty", "vCont?", "X0,0:", "qNone", "Z5,4c00,1", "!"):
         row(f"{packet} isn't known", one.ask(packet) == "")
     one.send(b"g", change=1)
     row("a wrong sum is asked for again", one.byte() == b"-")
     kept = one.ask("g")
-    wrong = ["m", "m0", "mz,1", "m0,10001", "m-1,1", "M4c00,2:00", "M4c00,1:0", "M0,1:00", "M4fff,2:0000", "M5000,1:00", "pd", "p-1", "Pd=0000", "P0=00", "P0=000000", "G00", "Z0,10000,1", "cx"]
+    wrong = ["m", "m0", "mz,1", "m0,10001", "m-1,1", "M4c00,2:00", "M4c00,1:0", "M0,1:00", "M4fff,2:0000", "M5000,1:00", "pd", "p-1", "Pd=0000", "P0=00", "P0=000000", "G00", "Z0,10000,1", "Z2,10000,1", "Z2,ffff,2", "Z2,4c00", "z3,4c00,x", "cx"]
     row(f"{len(wrong)} wrong packets", [one.ask(packet) for packet in wrong] == ["E01"] * len(wrong) and one.ask("g") == kept)
 
 
@@ -230,6 +230,21 @@ def try_calls(server: Server, one: Client) -> None:
     other = Client(server.port)
     row("and comes again", other.ask("g") == kept)
     other.peer.close()
+
+
+def try_watches(room: pathlib.Path) -> None:
+    """Stops after writes and reads, and goes back to before them."""
+    (room / "write.roms").write_bytes(bytes.fromhex("21004c36057e34c30000").ljust(pacboard.ROMS_SIZE, b"\0"))  # LD HL,4C00H; LD (HL),5; LD A,(HL); INC (HL); JP 0
+    with Server(room / "write.roms") as server:
+        one = Client(server.port)
+        steps = lambda packet, count: [(told, one.pc()) for told in (one.ask(packet) for _ in range(count))]
+        row("a watchpoint", one.ask("Z2,4c00,2") == "OK" and steps("c", 4) == [("T05watch:4c00;", pc) for pc in (5, 7, 5, 7)])
+        row("back to before each write", steps("bc", 4) == [("T05watch:4c00;", pc) for pc in (6, 3, 6, 3)] and steps("bc", 1) == [("T05replaylog:begin;", 0)])
+        row("none of reads", one.ask("z2,4c00,2") == "OK" and one.ask("Z3,4c00,1") == "OK" and steps("c", 1) == [("T05rwatch:4c00;", 6)])
+        row("of both", one.ask("z3,4c00,1") == "OK" and one.ask("Z4,4c00,1") == "OK" and steps("c", 3) == [("T05awatch:4c00;", pc) for pc in (7, 5, 6)])
+        row("a step that meets it", steps("s", 1) == [("T05awatch:4c00;", 7)] and steps("s", 2) == [("S05", 0), ("S05", 3)])
+        row("beside a breakpoint", one.ask("Z0,5,1") == "OK" and steps("c", 1)[0][1] == 5 and one.ask("bc") in ("T05awatch:4c00;", "T05swbreak:;") and one.pc() == 3)
+        row("and none any more", one.ask("z4,4c00,1") == "OK" and steps("c", 2) == [("T05swbreak:;", 5)] * 2)
 
 
 def try_kept() -> None:
@@ -318,10 +333,11 @@ def main(words: list[str]) -> int:
             try_memory(one, pacboard.Board(board.roms), room)
             try_calls(server, one)
         try_ends(room)
+        try_watches(room)
         try_kept()
         if words:
             try_symbols(room, pathlib.Path(words[0]))
-    return count.end(50)
+    return count.end(70)
 
 
 if __name__ == "__main__":

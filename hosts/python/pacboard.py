@@ -8,6 +8,7 @@
     board.step()                                 # one instruction
     pc = board.registers().pc
     ran, samples = board.until(50_688, [0x0123]) # to this address, or for so many T-states
+    ran, _ = board.until(50_688, watched={0x4C00: WRITE}) # to a write there: ran.before and ran.after are the byte
     board.close()                                # gives its memory back, as the end of `with LiveBoard(roms) as board` does
 
 A `Board` has the same calls but the last four, and is nothing but its block: each call reads and writes all of that, which takes longer, and
@@ -32,7 +33,7 @@ import subprocess
 import sys
 import tempfile
 import threading
-from collections.abc import Callable, Iterable
+from collections.abc import Callable, Iterable, Mapping
 from typing import TYPE_CHECKING, Any, Protocol, SupportsIndex, TypeAlias
 
 if TYPE_CHECKING:
@@ -59,7 +60,8 @@ FRAME_MICROSECONDS, FRAME_SAMPLES, SAMPLE_RATE, SWITCHES = 16_500, 1_584, 96_000
 STEP_SAMPLES, ALIGNED, CLOSED = 2, 16, 5  # room for a step, what the address of a live board's memory is divided by, and the code of a closed one
 SAMPLE_TICKS = 32  # T-states from one sample to the next
 RGBA, BGRA = 0, 1  # the order of a pixel's bytes: red, green, blue and 255, or blue, green, red and 255
-UNTIL_TIME, UNTIL_PLACE, UNTIL_STOP, UNTIL_FULL = 1, 2, 3, 4  # why LiveBoard.until ended
+UNTIL_TIME, UNTIL_PLACE, UNTIL_STOP, UNTIL_FULL, UNTIL_ACCESS = 1, 2, 3, 4, 5  # why LiveBoard.until ended
+WRITE, READ = 1, 2  # what is watched of an address, and what a step did there
 NAMES = """P1_UP P1_LEFT P1_RIGHT P1_DOWN RACK_TEST COIN1 COIN2 CREDIT
 P2_UP P2_LEFT P2_RIGHT P2_DOWN BOARD_TEST START1 START2 COCKTAIL""".split()
 INPUTS = {name: 1 << bit for bit, name in enumerate(NAMES)}
@@ -116,11 +118,16 @@ class Until(ctypes.Structure):
     why: int
     stop: int
     pc: int
-    bytes: ctypes.Array[ctypes.c_uint8]
+    address: int
+    access: int
+    before: int
+    after: int
     vector: int
+    bytes: ctypes.Array[ctypes.c_uint8]
     _fields_ = [
         ("ticks", ctypes.c_uint64), ("samples", ctypes.c_uint32), ("pictures", ctypes.c_uint32), ("why", ctypes.c_uint32), ("stop", ctypes.c_uint32),
-        ("pc", ctypes.c_uint16), ("bytes", ctypes.c_uint8 * 4), ("vector", ctypes.c_uint8), ("zero", ctypes.c_uint8),
+        ("pc", ctypes.c_uint16), ("address", ctypes.c_uint16), ("access", ctypes.c_uint8), ("before", ctypes.c_uint8), ("after", ctypes.c_uint8),
+        ("vector", ctypes.c_uint8), ("bytes", ctypes.c_uint8 * 4), ("zero", ctypes.c_uint32),
     ]  # fmt: skip
 
 
@@ -216,7 +223,7 @@ def library() -> ctypes.CDLL:
         "pac_live_hold": (written, ctypes.c_uint16, ctypes.c_uint16),
         "pac_live_exec": (written, ctypes.c_uint32, written, size, written),
         "pac_live_step": (written, written, size, written),
-        "pac_live_until": (written, ctypes.c_uint32, text, size, written, size, written),
+        "pac_live_until": (written, ctypes.c_uint32, text, size, text, size, written, size, written),
         "pac_live_peek": (written, ctypes.c_uint16, written, size),
         "pac_live_registers": (written, written),
         "pac_live_draw": (written, ctypes.c_uint8, written, size),
@@ -269,6 +276,14 @@ def places_of(addresses: Iterable[SupportsIndex]) -> bytes:
     found = bytearray(1 << 16)
     for address in addresses:
         found[number("address", address, 16)] = 1
+    return bytes(found)
+
+
+def watched_of(addresses: Mapping[int, SupportsIndex]) -> bytes:
+    """What is watched of addresses, WRITE, READ or both, as LiveBoard.until takes it: a byte for each of 65,536."""
+    found = bytearray(1 << 16)
+    for address, kinds in addresses.items():
+        found[number("address", address, 16)] = number("kinds", kinds, 2)
     return bytes(found)
 
 
@@ -517,20 +532,26 @@ class LiveBoard(Calls):
         self.call("step", samples, STEP_SAMPLES, ctypes.byref(ran))
         return ran, given(samples, ran)
 
-    def until(self, ticks: SupportsIndex, places: Iterable[SupportsIndex] = (), room: SupportsIndex | None = None) -> tuple[Until, array.array[int]]:
-        """Goes on for so many T-states, or, after a step at least, to one of some addresses, or to a stop: what was done, and the samples. `places`
-        are the addresses, or the bytes of `places_of`. Where `room` is given, so many samples end it, too."""
+    def until(
+        self, ticks: SupportsIndex, places: Iterable[SupportsIndex] = (), room: SupportsIndex | None = None, *, watched: Mapping[int, SupportsIndex] | bytes | bytearray = b""
+    ) -> tuple[Until, array.array[int]]:
+        """Goes on for so many T-states, or, after a step at least, to one of some addresses, to a step that writes to a watched address or reads it, or
+        to a stop: what was done, and the samples. `places` are the addresses, or the bytes of `places_of`; `watched` tells of addresses what of them is
+        watched, WRITE, READ or both, or is the bytes of `watched_of`. Where `room` is given, so many samples end it, too."""
         left, rest = number("ticks", ticks, 32), None if room is None else number("room", room, 32)
         handed = bytes_of(places) if isinstance(places, (bytes, bytearray, memoryview)) else places_of(places)
+        seen = watched_of(watched) if isinstance(watched, Mapping) else bytes_of(watched)
         found, before = array.array("h"), Until()
         with self.lock:
             while True:
                 count = min(left // SAMPLE_TICKS + 2, SAMPLE_RATE) if rest is None else rest
                 ran, samples = Until(), (ctypes.c_int16 * max(count, 1))()
-                done(LIBRARY.pac_live_until(ctypes.byref(self.handle), left, handed, len(handed), samples, count, ctypes.byref(ran)))
+                done(LIBRARY.pac_live_until(ctypes.byref(self.handle), left, handed, len(handed), seen, len(seen), samples, count, ctypes.byref(ran)))
                 found, left = found + given(samples, ran), max(left - ran.ticks, 0)
                 for name in ("ticks", "samples", "pictures"):
                     setattr(ran, name, getattr(ran, name) + getattr(before, name))
+                if ran.why == UNTIL_FULL and rest is None and ran.access:
+                    ran.why = UNTIL_ACCESS  # (the next call gives the sample that had no room)
                 if ran.why != UNTIL_FULL or rest is not None:
                     return ran, found
                 before = ran

@@ -250,6 +250,22 @@ def try_until() -> None:
     for size in (1, 255, 65_535, 65_537, 1 << 20):
         row(f"a set of {size} bytes", fault_of(live.until, 1, bytes(size)) == fault_of(live.until, 1, bytearray(size)) == "Refused" and live.block == kept)
     row("a set without a byte is without an address", live.until(40, b"")[0].why == pacboard.UNTIL_TIME)
+    writer = pacboard.LiveBoard(bytes.fromhex("21004c36057e34c30000").ljust(pacboard.ROMS_SIZE, b"\0"))  # LD HL,4C00H; LD (HL),5; LD A,(HL); INC (HL); JP 0
+    kinds = {"WRITE": (5, 0, 5, pacboard.WRITE), "READ": (6, 5, 5, pacboard.READ), "BOTH": (7, 5, 6, pacboard.WRITE)}
+    tell: Callable[..., tuple[int, ...]] = lambda **more: (lambda ran: (ran.why, ran.pc, ran.address, ran.access, ran.before, ran.after))(writer.until(1000, **more)[0])
+    for name, (pc, before, after, access) in kinds.items():
+        row(f"an access: {name}", tell(watched={0x4C00: 3}) == (pacboard.UNTIL_ACCESS, pc, 0x4C00, access, before, after))
+    wanted = (pacboard.UNTIL_ACCESS, 5, 0x4C00, pacboard.WRITE, 6, 5)
+    row("of writes alone, by bytes", tell(watched=pacboard.watched_of({0x4C00: pacboard.WRITE})) == wanted)
+    row("none elsewhere", tell(watched={0x4C01: 3, 0x4800: 3})[0] == pacboard.UNTIL_TIME)
+    kept = live.block
+    wrong_numbers: list[Any] = [{1 << 16: 1}, {-1: 1}, {0: 4}, {0: -1}]
+    for watched in wrong_numbers:
+        row(f"watched {watched}: ValueError", fault_of(lambda it=watched: live.until(1, watched=it)) == "ValueError" and live.block == kept)
+    wrong_kinds: list[Any] = [{"0": 1}, {0: "1"}, {0: 1.0}, 7, None, [1]]
+    for watched in wrong_kinds:
+        row(f"watched {watched}: TypeError", fault_of(lambda it=watched: live.until(1, watched=it)) == "TypeError" and live.block == kept)
+    row("no set of a byte", fault_of(lambda: live.until(1, watched=b"1")) == "Refused" and live.block == kept)
     live.close()
     row("until of a closed board", fault_of(live.until, 1) == "Closed")
 

@@ -71,7 +71,7 @@ static bool play_frame(uint16_t mask, bool is_again)
         places[address] = 1;
     pac_live_hold(&it.live, played[now], 0xFFFF), pac_live_registers(&it.live, &at);
     uint32_t ticks = (uint32_t)((uint64_t)(now + 1) * MACHINE_FRAME - at.time);
-    if (pac_live_until(&it.live, ticks, places, is_again || address < 0 ? 0 : sizeof places, samples, MACHINE_ROOM, &ran) != PAC_DONE)
+    if (pac_live_until(&it.live, ticks, places, is_again || address < 0 ? 0 : sizeof places, places, 0, samples, MACHINE_ROOM, &ran) != PAC_DONE)
         return false;
     if (sound != 0 && !is_again)
         SDL_QueueAudio(sound, samples, 2 * (ran.why == PAC_UNTIL_STOP ? PAC_FRAME_SAMPLES : ran.samples));

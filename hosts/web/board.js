@@ -10,11 +10,11 @@ const BLOCK = 67756, ADDRESSES = 65536;
 const HANDLE = 24; // bytes: where the memory of a live board is, its size, and the seal
 // What the calls are handed, in bytes: `closed` is a handle that isn't open, `bytes` are those of a block, of a state file, or of addresses.
 const SIZES = {
-    closed: HANDLE, roms: 25120, bytes: BLOCK, rgba: 4 * WIDTH * HEIGHT, samples: 2 * ROOM, ran: 32, registers: 48, places: ADDRESSES,
+    closed: HANDLE, roms: 25120, bytes: BLOCK, rgba: 4 * WIDTH * HEIGHT, samples: 2 * ROOM, ran: 40, registers: 48, places: ADDRESSES, watched: ADDRESSES,
 };
 const RGBA = 0; // the order of a pixel's bytes
 const ALIGNED = 16; // where memory of a live board begins
-const WHY = ['', 'time', 'place', 'stop', 'full']; // why `pac_live_until` ended, by its codes
+const WHY = ['', 'time', 'place', 'stop', 'full', 'access']; // why `pac_live_until` ended, by its codes
 
 // The inputs, each a bit of a mask.
 export const INPUTS = Object.fromEntries([
@@ -261,18 +261,20 @@ export class Board {
         return this.#memory.told();
     }
 
-    // Goes on until so many T-states are over, the processor is before an address of a set, the board stops, or 9,602 samples have come: what was
-    // done, with `why`, one of 'time', 'place', 'stop' and 'full'. The set has 65,536 bytes, one for each address, other than 0 where it's of the
-    // set; without one there is none. Where there is time one step is done at least.
-    until(ticks, places = null) {
+    // Goes on until so many T-states are over, the processor is before an address of a set, a step has written to a watched address or read it,
+    // the board stops, or 9,602 samples have come: what was done, with `why`, one of 'time', 'place', 'access', 'stop' and 'full'. Both sets have
+    // 65,536 bytes, one for each address: other than 0 where it's of the set, and 1 where writes to it are watched, 2 where reads are, 3 where
+    // both; without one there is none. Where there is time one step is done at least.
+    until(ticks, places = null, watched = null) {
         const memory = this.#memory, { at, view } = memory, ran = Number(at.ran), some = number('ticks', ticks, 0xffffffff);
         memory.intact();
-        const set = places === null ? [at.places, 0n] : memory.filled('places', places);
-        this.#call('pac_live_until', some, ...set, at.samples, BigInt(ROOM), at.ran);
+        const sets = Object.entries({ places, watched }).flatMap(([name, set]) => (set === null ? [at[name], 0n] : memory.filled(name, set)));
+        this.#call('pac_live_until', some, ...sets, at.samples, BigInt(ROOM), at.ran);
+        const [access, before, after, vector, ...bytes] = memory.bytes(ran + 28, 8);
         return {
             ticks: view.getBigUint64(ran, true), pictures: view.getUint32(ran + 12, true), why: WHY[view.getUint32(ran + 16, true)],
-            stop: view.getUint32(ran + 20, true), pc: view.getUint16(ran + 24, true), bytes: Array.from(memory.bytes(ran + 26, 4)),
-            vector: view.getUint8(ran + 30), samples: memory.heard(),
+            stop: view.getUint32(ran + 20, true), pc: view.getUint16(ran + 24, true), address: view.getUint16(ran + 26, true), access, before, after,
+            vector, bytes, samples: memory.heard(),
         };
     }
 

@@ -242,7 +242,16 @@ async function untils(module) {
     none.set([0xed, 0], 0);
     const stopped = board.beside(none), told = stopped.until(1000);
     row('node: a stop is told', told.why === 'stop' && told.stop === 1 && told.pc === 0 && told.bytes[0] === 0xed && stopped.registers.steps === 0n);
-    row('node: no set of another length', codeOf(() => board.until(1, new Uint8Array(5))) === 1);
+    row('node: no set of another length', [[new Uint8Array(5)], [null, new Uint8Array(65537)]].every((sets) => codeOf(() => board.until(1, ...sets)) === 1));
+    const writer = roms.slice(), watched = new Uint8Array(65536);
+    writer.set([0x21, 0x00, 0x4c, 0x36, 0x05, 0x7e, 0x34, 0xc3, 0x00, 0x00]); // LD HL,4C00H; LD (HL),5; LD A,(HL); INC (HL); JP 0
+    const written = board.beside(writer), accesses = (kinds, count) => {
+        watched[0x4c00] = kinds;
+        return Array.from({ length: count }, () => written.until(1000, null, watched)).map(({ why, pc, address, access, before, after }) =>
+            [why, pc, address, access, before, after].join(' ')).join(', ');
+    };
+    row('node: writes and reads are told', accesses(3, 4) === 'access 5 19456 1 0 5, access 6 19456 2 5 5, access 7 19456 1 5 6, access 5 19456 1 6 5');
+    row('node: and what isn\'t watched isn\'t', accesses(1, 2) === 'access 7 19456 1 5 6, access 5 19456 1 6 5' && accesses(0, 1).startsWith('time '));
 }
 
 // Boards that lie in one instance, and those that are closed.

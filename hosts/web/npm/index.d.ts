@@ -40,9 +40,14 @@ export interface Ran {
     readonly samples: Int16Array;
 }
 
-/** What was done until a time or an address: 'full' where no more samples had room, and then the next call goes on. */
+/** What was done until a time, an address or an access: 'full' where no more samples had room, and then the next call goes on. */
 export interface Until extends Ran {
-    readonly why: 'time' | 'place' | 'stop' | 'full';
+    readonly why: 'time' | 'place' | 'access' | 'stop' | 'full';
+    /** The watched address that the last step wrote to (1) or read (2), and its byte before and after; all 0 where it did neither. */
+    readonly address: number;
+    readonly access: number;
+    readonly before: number;
+    readonly after: number;
 }
 
 /** The registers by their names, T-states and steps since power-on among them. */
@@ -107,10 +112,11 @@ export class Board {
     /** Does exactly one step. What was asked in all stays, so `run` goes on from there to the time that it would have gone to. */
     step(): Ran;
     /**
-     * Goes on until so many T-states are over, the processor is before an address of a set, or the board stops, with one step at least where there
-     * is time. The set has a byte for each of the 65,536 addresses. What was asked in all stays, as with `step`.
+     * Goes on until so many T-states are over, the processor is before an address of a set, a step has used a watched address, or the board stops,
+     * with one step at least where there is time. Both sets have a byte for each of the 65,536 addresses; where writes are watched it's 1, where
+     * reads are 2, and 3 where both. What was asked in all stays, as with `step`.
      */
-    until(ticks: number, places?: Uint8Array | null): Until;
+    until(ticks: number, places?: Uint8Array | null, watched?: Uint8Array | null): Until;
     /** The registers by their names. */
     get registers(): Registers;
     /** The picture as it stands: red, green, blue and 255 for each pixel. The next picture of a board of this module is written over it. */

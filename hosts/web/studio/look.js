@@ -28,18 +28,31 @@ export function stepBack(run) {
     return run;
 }
 
-// What a run is to stop at: addresses, and what has to hold there, which is looked at where one of them is met alone.
+const WRITES = 1; // what is watched of an address
+
+// A set of addresses, each with what it has there.
+function setOf(addresses, kind) {
+    const set = new Uint8Array(ADDRESSES);
+    for (const address of addresses) set[address] = kind;
+    return set;
+}
+
+// What a run is to stop at: before addresses, and after writes to others; and what has to hold there, which is looked at where one of them is met
+// alone: by board and registers, and by the address that was written to, nothing where none was.
 export class Stops {
-    constructor(addresses, holds = () => true) {
-        this.places = new Uint8Array(ADDRESSES);
-        for (const address of addresses) this.places[address] = 1;
-        this.holds = holds;
+    constructor(addresses, holds = () => true, written = []) {
+        Object.assign(this, { places: setOf(addresses, 1), watched: written.length === 0 ? null : setOf(written, WRITES), holds });
     }
 
-    // Whether the run is at one.
+    // Whether the run is at one of the addresses.
     isMet(run) {
         const { registers } = run.board;
-        return this.places[registers.pc] !== 0 && this.holds(run.board, registers);
+        return this.places[registers.pc] !== 0 && this.holds(run.board, registers, null);
+    }
+
+    // Whether it has come to a stop, by what was done last.
+    hasCome(run, { why, address }) {
+        return why === 'access' && this.holds(run.board, run.board.registers, address) || (why === 'place' || why === 'access') && this.isMet(run);
     }
 }
 
@@ -47,9 +60,9 @@ export class Stops {
 export function goesTo(run, stops, heard = () => undefined) {
     const { frame } = run;
     while (run.canGo && run.frame === frame) {
-        const { why, samples } = run.part(FRAME_TICKS, stops.places);
-        heard(samples);
-        if (why === 'place' && stops.isMet(run)) return true;
+        const ran = run.part(FRAME_TICKS, stops.places, stops.watched);
+        heard(ran.samples);
+        if (stops.hasCome(run, ran)) return true;
     }
     return false;
 }

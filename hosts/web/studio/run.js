@@ -78,12 +78,12 @@ export class Run {
         return samples;
     }
 
-    // Goes on within this frame, so many T-states at most, until the processor is before an address of a set: what was done. At the frame's end
-    // the next one begins.
-    part(ticks, places = null) {
+    // Goes on within this frame, so many T-states at most, until the processor is before an address of a set, or has just used a watched one:
+    // what was done. At the frame's end the next one begins.
+    part(ticks, places = null, watched = null) {
         this.begins();
         const left = ticksIn(this.origin + FRAME_MICROSECONDS * (this.frame + 1)) - clocksOf(this.board).ticks;
-        const ran = left > 0 ? this.board.until(Math.min(ticks, left), places) : { ticks: 0, stop: 0, why: 'time', samples: [] };
+        const ran = left > 0 ? this.board.until(Math.min(ticks, left), places, watched) : { ticks: 0, stop: 0, why: 'time', samples: [] };
         this.inside += Number(ran.ticks);
         if (ran.stop !== 0) this.stop = { stop: ran.stop, pc: ran.pc };
         else if (ran.ticks >= left) this.next();

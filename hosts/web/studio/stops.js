@@ -1,26 +1,34 @@
-// The pane of breakpoints: lines and addresses at which the run rests, each with a condition where one is wanted.
+// The pane of breakpoints: lines and addresses before which the run rests, and addresses that are written to, after which it does; each with a
+// condition where one is wanted.
 
 import { hex } from './bytes.js';
 import { conditionOf } from './conditions.js';
 import { Stops } from './look.js';
 import { link, made } from './parts.js';
 
-const ABOUT = 'Click on a line\'s number to rest before it, and again to take that back. A condition may compare registers, bytes and numbers: '
-    + 'HL >= 4C00H and (LIVES) <> 0.';
+const ABOUT = 'Click on a line\'s number to rest before it, and again to take that back; or rest after each write to an address. A condition may '
+    + 'compare registers, bytes and numbers: HL >= 4C00H and (LIVES) <> 0.';
 
 export class StopsPane {
     constructor(root, studio) {
-        Object.assign(this, { root, studio, all: [] }); // each with its line, or its address where it has none, and with what shows it
-        this.field = made('input', { className: 'field', size: 17, placeholder: 'address or name',
-            'aria-label': 'Address in hexadecimal, or a name', 'data-keys': '' });
-        this.field.setAttribute('list', 'names');
-        this.field.addEventListener('change', () => this.find(this.field.value.trim()));
+        // each with its line, or its address where it has none, whether that is written to, and with what shows it
+        Object.assign(this, { root, studio, all: [] });
+        this.field = this.asks('address or name', 'Address in hexadecimal, or a name', false);
+        this.written = this.asks('written to', 'Address that is written to, in hexadecimal, or a name', true);
         this.told = made('span', { className: 'dim' });
         this.rows = made('div', { className: 'stops' });
         const { deck } = studio;
         const button = (text, title, isBack) => made('button', { type: 'button', title, onclick: () => deck.toStop(isBack) }, text);
-        root.append(made('p', {}, ABOUT), made('div', { className: 'tools' }, this.field, button('On to the next', 'F8', false),
+        root.append(made('p', {}, ABOUT), made('div', { className: 'tools' }, this.field, this.written, button('On to the next', 'F8', false),
             button('Back to the last', 'Shift F8', true), this.told), this.rows);
+    }
+
+    // A field for an address.
+    asks(placeholder, label, isWrite) {
+        const field = made('input', { className: 'field', size: 17, placeholder, 'aria-label': label, 'data-keys': '' });
+        field.setAttribute('list', 'names');
+        field.addEventListener('change', () => this.find(field.value.trim(), isWrite));
+        return field;
     }
 
     show() {}
@@ -32,14 +40,15 @@ export class StopsPane {
 
     // Sets one at a line, or takes it away.
     toggle(line) {
-        this.changes(this.all.find((one) => one.line === line), { line, address: null });
+        this.changes(this.all.find((one) => one.line === line), { line, address: null, isWrite: false });
     }
 
     // Sets one at an address or a name, or takes it away.
-    find(text) {
+    find(text, isWrite = false) {
         const address = this.studio.addressIn(text);
         this.told.textContent = address === null ? `${text}: no address and no name` : '';
-        if (address !== null) this.changes(this.all.find((one) => this.addressOf(one) === address), { line: null, address });
+        const isSame = (one) => one.isWrite === isWrite && this.addressOf(one) === address;
+        if (address !== null) this.changes(this.all.find(isSame), { line: null, address, isWrite });
     }
 
     changes(old, fresh) {
@@ -71,10 +80,10 @@ export class StopsPane {
 
     // Has the run rest at all of them, as the source and the conditions are now. One whose condition is none stops nothing, and says so.
     renew() {
-        const { studio } = this, { listing } = studio, found = new Map();
+        const { studio } = this, { listing } = studio, places = new Map(), written = new Map();
         for (const one of this.all) {
-            const address = this.addressOf(one), { line, field, place, told } = one;
-            place.textContent = `${line === null ? '' : `line ${line}  `}${address === null ? 'no bytes' : hex(address)}`;
+            const address = this.addressOf(one), { line, isWrite, field, place, told } = one, found = isWrite ? written : places;
+            place.textContent = `${isWrite ? 'written to  ' : line === null ? '' : `line ${line}  `}${address === null ? 'no bytes' : hex(address)}`;
             told.textContent = '';
             try {
                 const holds = conditionOf(field.value, listing?.symbols ?? new Map());
@@ -83,8 +92,8 @@ export class StopsPane {
                 told.textContent = error.message;
             }
         }
-        studio.session.stops = found.size === 0 ? null
-            : new Stops(found.keys(), (board, { pc }) => found.get(pc).some((holds) => holds(board)));
+        const holds = (board, { pc }, at) => (at === null ? places.get(pc) : written.get(at)).some((isSo) => isSo(board));
+        studio.session.stops = places.size + written.size === 0 ? null : new Stops(places.keys(), holds, [...written.keys()]);
         this.rows.replaceChildren(...this.all.map(({ row }) => row));
         studio.editor.stopsAt(this.all.map(({ line }) => line));
     }

@@ -289,6 +289,8 @@ async function breaking(page) {
     row('Ctrl F8 sets one at the caret', (await shown()) === `line ${call}  011D×`, await shown());
     await page.value("(({ field }) => { field.value = 'SING'; field.dispatchEvent(new Event('change')); })(studio.panes.all.stops)");
     row('and a name one at its address', (await shown()).endsWith(' / 0135×'), await shown());
+    await page.value("(({ written }) => { written.value = 'WORK'; written.dispatchEvent(new Event('change')); })(studio.panes.all.stops)");
+    row('and one after writes to it', (await shown()).endsWith(' / written to  4C00×'), await shown());
     await page.value("studio.begin('hello', new TextDecoder().decode(studio.files['hello.asm']))");
     row('another source has none', (await shown()) === '' && await page.value('studio.session.stops === null'));
     await page.value(rest);

@@ -14,6 +14,7 @@ import { hex, textOf } from './bytes.js';
 const FIRST = 58, FRAMES = 3; // that are looked at step by step: a snapshot is among them
 const FAR = 5; // frames
 const COPY = 0x0117, MAIN = 0x53; // the LDIR that gives the sprites' places, and where the processor waits for an interrupt
+const WRITTEN = 0x5062; // one of these places
 const CONDITIONS = [ // at the LDIR, and what has to hold of a moment
     ['BC = 9', ({ b, c }) => 256 * b + c === 9],
     ['C<>1 and HL >= PLACE', ({ c, h, l }) => c !== 1 && 256 * h + l >= 0x4c30],
@@ -168,6 +169,11 @@ function met(it, stops) {
     return [on.join(), back.reverse().join()];
 }
 
+// Whether DE is an address.
+function isAt({ d, e }, address) {
+    return 256 * d + e === address;
+}
+
 // Breakpoints: each moment at an address at which a condition holds, and no other.
 function breakpoints(it, row) {
     const { all, symbols } = it;
@@ -187,6 +193,12 @@ function breakpoints(it, row) {
     }
     const set = [COPY, 0x0102, symbols.get('SING')], wanted = all.filter((at) => set.includes(it.at(at).pc)), found = met(it, new Stops(set));
     row(`${wanted.length} times at one of three addresses`, wanted.length > 50 && found.every((one) => one === wanted.join()));
+    for (const [condition, holds] of [['', () => true], ['IFF = 1', () => false]]) {
+        const isWanted = conditionOf(condition, symbols), writes = all.filter((at) => it.at(at).pc === COPY && isAt(it.at(at), WRITTEN));
+        const after = writes.map((at) => at + 1).filter((at) => holds(it.at(at))).join();
+        const stops = met(it, new Stops([], (board, registers, address) => address === WRITTEN && isWanted(board), [WRITTEN]));
+        row(`after ${writes.length} writes to ${hex(WRITTEN)}H${condition && ` where ${condition}`}`, writes.length >= FRAMES && stops.every((one) => one === after));
+    }
 }
 
 // A session that plays rests at a breakpoint, goes on from it, and ends each frame as it would without one.
