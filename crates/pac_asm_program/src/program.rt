@@ -9,21 +9,11 @@ use pac_heap::Global;
 use std::marker::Model;
 
 /// What a source becomes: an entry for each of its lines, the symbols, and the program ROM.
+#[derive(Drop)]
 pub struct Program {
     lines: Vec<Line, Global>,
     symbols: Symbols,
     rom: Box<[u8; 16384], Global>,
-}
-
-impl Drop for Program {
-    /// Drops each part.
-    fn drop(self) {
-        let Program {
-            lines: _,
-            symbols: _,
-            rom: _,
-        } = self;
-    }
 }
 
 impl Model for Program {

@@ -11,15 +11,9 @@ use std::alloc::AllocError;
 use std::marker::Model;
 
 /// Names that stand for numbers, in the order in which they were defined. Small and capital letters differ.
+#[derive(Drop)]
 pub struct Symbols {
     names: IndexMap<Vec<u8, Global>, i32, Seeded, Global>,
-}
-
-impl Drop for Symbols {
-    /// Drops the table.
-    fn drop(self) {
-        let Symbols { names: _ } = self;
-    }
 }
 
 impl Model for Symbols {

@@ -1,6 +1,5 @@
 -- Where a frame's steps leave a course, from where they leave its board.
-use Rattle.std.proofs.Common.{◌≡◌, ℕ, zero, suc, ◌+◌, ◌-◌, ◌<◌, ◌≤◌, ◌⊎◌, inl, inr, List, None}
-use Rattle.std.proofs.Common.{refl, sym, ap, subst, ◌∙◌, arith}
+use Rattle.std.proofs.Common.{◌≡◌, ℕ, zero, suc, ◌+◌, ◌-◌, ◌<◌, ◌≤◌, ◌⊎◌, None, rules, sym, ap, subst, ◌∙◌, arith}
 use mathlib.Core.List.{IsPrefix}
 use Rattle.pac_board.specs.BoardView.{BoardView}
 use Rattle.pac_board.specs.Calls.{with_due}
@@ -15,12 +14,11 @@ use Rattle.pac_board.specs.Sinks.{TookAll}
 use Rattle.pac_board.specs.State.{BoardValue, board_with_inputs, due_outputs, nothing_due, steps_counted}
 use Rattle.pac_board.specs.Turns.{IsWayRefused, board_after_walk}
 use Rattle.pac_inputs.specs.Stretches.{held}
-use Rattle.pac_inputs.specs.declared.line.Stretch.{Stretch}
 use Rattle.pac_board_course.proofs.Counted.{counted, going-if-counted, going-same, going-next}
 use Rattle.pac_board_course.proofs.Framed.{frame_walk, frame_closed, frames_ended, frame-now, frame-closed, on-the-way-on}
 use Rattle.pac_board_course.proofs.Framed.{closed-outputs, closed-stop}
 use Rattle.pac_board_course.proofs.Whole.{frame-within, held-after, not-held-yet}
-use Rattle.pac_board_course.specs.Course.{CourseValue, end_of, next_in, held_in, way_walked, course_after}
+use Rattle.pac_board_course.specs.Course.{CourseValue, end_of, next_in, held_in, course_after}
 use Rattle.pac_board_course.specs.CourseProofs.{course_with_due}
 use Rattle.pac_board_course.specs.Frames.{IsUnderway, frame_end}
 use Rattle.pac_board_course.specs.Plays.{IsCourseHeldUp}
@@ -48,105 +46,66 @@ module _ (old : CourseValue) (tries : ℕ) (due : Due) where
 
   pub board-placed : (board new : BoardValue) → board ≡ with_due (board_after_walk old.board (frame_walk old tries)) due
       → IsClosed old board new → new ≡ board_at (frame_closed old tries).now
-  board-placed board new walked (inl closed) =
-      let time = ap (λ (b : BoardValue). b.state.now.time) walked in
-      let ended : frame_end old ≤ (frame_walk old tries).now.time = subst (λ time. frame_end old ≤ time) time closed.0 in
-      closed.1 ∙ ap (λ b. board_with_inputs b (next_mask old)) walked
-      ∙ ap board_at (held-after old tries (next_mask old) ended refl ∙ sym (frame-now old tries))
-  board-placed board new walked (inr closed) =
-      let time = ap (λ (b : BoardValue). b.state.now.time) walked in
-      let early : (frame_walk old tries).now.time < frame_end old = subst (λ time. time < frame_end old) time closed.0 in
-      closed.1 ∙ walked ∙ ap board_at (not-held-yet old tries early ∙ sym (frame-now old tries))
+  board-placed board new walked given = grind (arith, frame-now, frame_walk, held-after, not-held-yet)
 
 -- held inputs are no output
 pub due-kept : (old : CourseValue) (board new : BoardValue) → IsClosed old board new
     → (due_outputs new ≡ due_outputs board) × (new.state.due ≡ board.state.due)
     × (new.state.now.time ≡ board.state.now.time) × (new.state.now.steps ≡ board.state.now.steps)
-due-kept old board new (inl closed) = (
-  ap due_outputs closed.1,
-  ap (λ (b : BoardValue). b.state.due) closed.1,
-  ap (λ (b : BoardValue). b.state.now.time) closed.1,
-  ap (λ (b : BoardValue). b.state.now.steps) closed.1,
-)
-due-kept old board new (inr closed) = (
-  ap due_outputs closed.1,
-  ap (λ (b : BoardValue). b.state.due) closed.1,
-  ap (λ (b : BoardValue). b.state.now.time) closed.1,
-  ap (λ (b : BoardValue). b.state.now.steps) closed.1,
-)
+due-kept old board new given = search rules
 
-module _ {S : Type 0} (to : Giving S) (old : CourseValue) (board new : BoardValue) (script : List Stretch) (gone : ℕ) (sink later : S) where
+module _ {S : Type 0} (to : Giving S) (old : CourseValue) (board new : BoardValue) (sink later : S) where
   -- the course, on its board
   abbrev course : CourseValue
-  course = record { board = new; script = script; gone = gone }
+  course = record old { board = new }
 
   pub placed : (tries : ℕ) (due : Due) → board ≡ with_due (board_after_walk old.board (frame_walk old tries)) due → IsClosed old board new
-      → script ≡ old.script → gone ≡ old.gone → course ≡ course_with_due (course_after old (frame_closed old tries)) due
-  placed tries due walked closed scripts gones =
-      ap (λ (script : List Stretch). record { board = new; script = script; gone = gone }) scripts
-      ∙ ap (λ (gone : ℕ). record { board = new; script = old.script; gone = gone }) gones
-      ∙ ap (λ (board : BoardValue). record { board = board; script = old.script; gone = old.gone })
-      (board-placed old tries due board new walked closed)
+      → course ≡ course_with_due (course_after old (frame_closed old tries)) due
+  placed tries due walked closed =
+      ap (λ (board : BoardValue). record old { board = board }) (board-placed old tries due board new walked closed)
 
   -- steps of the frame without a stop
   pub underway : old.board.state.now.time < end_of old → (tries : ℕ) → (frame_walk old tries).stop ≡ None
       → board ≡ board_after_walk old.board (frame_walk old tries) → TookAll to.took sink (frame_walk old tries).outputs later
-      → IsClosed old board new → script ≡ old.script → gone ≡ old.gone → IsUnderway to.took old sink course later
-  underway early tries open_yet walked taken closed scripts gones =
-      let at = placed tries nothing_due walked closed scripts gones in
+      → IsClosed old board new → IsUnderway to.took old sink course later
+  underway early tries open_yet walked taken closed =
+      let at = placed tries nothing_due walked closed in
       let way = on-the-way-on old tries (frame-within old early) in
       let exact =
       counted (next_in old) (end_of old) (play-timely (by_view old.board.set) (held_in old)) old.board.state.now way.0
       (ap (λ (w : Walk BoardView). w.stop) (sym way.1) ∙ closed-stop old tries ∙ open_yet) in
-      let same = exact.1 ∙ sym way.1 in
-      record {
-        steps = exact.0;
-        course = at ∙ ap (course_after old) (sym same);
-        all_steps =
-            ap (λ (c : CourseValue). c.board.state.now.steps) at ∙ ap (λ (w : Walk BoardView). w.now.steps) (sym same) ∙ exact.2;
-        open_yet = ap (λ (w : Walk BoardView). w.stop) same ∙ closed-stop old tries ∙ open_yet;
-        sink_is =
-            subst (λ xs. TookAll to.took sink xs later)
-            (sym (ap (λ (w : Walk BoardView). w.outputs) same ∙ closed-outputs old tries)) taken;
-      }
+      let same = exact.1 ∙ sym way.1 in grind (arith, closed-outputs, closed-stop)
 
   -- an output of the frame was refused
   pub held-up : old.board.state.now.time < end_of old → (steps : ℕ)
       (stays : IsWayRefused to old.board (frame_end old) sink board later)
-      → stays.steps ≡ steps → IsClosed old board new → script ≡ old.script → gone ≡ old.gone → IsCourseHeldUp to old sink course later
-  held-up early zero stays count closed scripts gones = cut-something stays.cut (ap (λ n. (frame_walk old n).outputs) count)
-  held-up early (suc last) stays count closed scripts gones =
+      → stays.steps ≡ steps → IsClosed old board new → IsCourseHeldUp to old sink course later
+  held-up early zero stays count closed = cut-something stays.cut (ap (λ n. (frame_walk old n).outputs) count)
+  held-up early (suc last) stays count closed =
       let next = next_in old in
-      let from = old.board.state.now in
       let limit = frame_end old in
       let within = frame-within old early in
       let steps : ℕ = suc last in
       let kept = due-kept old board new closed in
       let walked = stays.board ∙ ap (λ n. with_due (board_after_walk old.board (frame_walk old n)) board.state.due) count in
-      let at = placed steps board.state.due walked closed scripts gones in
-      let all = kept.3 ∙ stays.all_steps ∙ ap (λ n. from.steps + n) count in
+      let at = placed steps board.state.due walked closed in
+      let all = kept.3 ∙ stays.all_steps ∙ ap (λ n. old.board.state.now.steps + n) count in
       let to_frame = frame-closed old steps in
-      let exact : (walk next limit from steps).now.steps ≡ from.steps + steps =
+      let exact : (walk next limit old.board.state.now steps).now.steps ≡ old.board.state.now.steps + steps =
       ap (λ (w : Walk BoardView). w.now.steps) (sym to_frame) ∙ ap (λ (c : CourseValue). c.board.state.now.steps) (sym at) ∙ all in
       let timely = play-timely (by_view old.board.set) (held_in old) in
-      let going = going-if-counted next limit timely from last exact in
-      let same = to_frame ∙ going-next next limit (end_of old) from last within going in
+      let going = going-if-counted next limit timely old.board.state.now last exact in
+      let same = to_frame ∙ going-next next limit (end_of old) old.board.state.now last within going in
       let before =
-      frame-closed old last ∙ going-same next limit (end_of old) from last within going in
+      frame-closed old last ∙ going-same next limit (end_of old) old.board.state.now last within going in
       record {
         steps = steps;
-        course =
-            at ∙ ap (λ w. course_with_due (course_after old w) board.state.due) same
-            ∙ ap (course_with_due (course_after old (way_walked old steps))) (sym kept.1);
+        course = search rules;
         all_steps = all;
-        cut =
-            cut-along
-            (ap (λ (w : Walk BoardView). w.outputs) (sym same) ∙ closed-outputs old steps
-            ∙ ap (λ n. (frame_walk old n).outputs) (sym count)) (sym kept.0) stays.cut;
+        cut = grind (arith, closed-outputs, cut-along, frame_walk);
         of_last = λ number is.
             let number_is : last ≡ number = omega arith in
             subst (λ xs. IsPrefix xs stays.cut.taken)
-            (sym (closed-outputs old last) ∙ ap (λ (w : Walk BoardView). w.outputs) before
-            ∙ ap (λ n. (way_walked old n).outputs) number_is)
+            (grind (arith, closed-outputs))
             (stays.of_last last count);
       }

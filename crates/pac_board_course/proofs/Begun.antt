@@ -1,11 +1,10 @@
 -- A course from power-on is the trace of its script.
-use Rattle.std.proofs.Common.{◌≡◌, ℕ, zero, suc, ◌+◌, ◌*◌, ◌/◌, ◌==◌, if◌then◌else◌, refl, ap, ◌∙◌, arith}
+use Rattle.std.proofs.Common.{◌≡◌, ℕ, zero, suc, ◌*◌, refl, ap, ◌∙◌, arith, rules}
 use Rattle.pac_board.specs.BoardView.{power_on_board_view}
-use Rattle.pac_board.specs.Entry.{Hold}
-use Rattle.pac_board.specs.Step.{Questions, Moment, Next, Goes, Ends, frame_ticks, step}
+use Rattle.pac_board.specs.Step.{Questions, Moment, Next, frame_ticks, step}
 use Rattle.pac_board.specs.State.{power_on_board}
 use Rattle.pac_board.specs.Trace.{by_view, next_with_inputs, play_step}
-use Rattle.pac_board.specs.Walk.{walk, walk_to, walk_onward}
+use Rattle.pac_board.specs.Walk.{walk, walk_to}
 use Rattle.pac_board.proofs.Runs.{runs-end}
 use Rattle.pac_board.proofs.Walks.{walk-to-ends, play-timely}
 use Rattle.pac_inputs.specs.Stretches.{total_frames, held}
@@ -17,18 +16,12 @@ use Rattle.pac_board_course.specs.Laws.{CoursesBegin}
 module _ {Board : Type 0} (one other : Moment Board → Next Board) (limit : ℕ) (same : (now : Moment Board) → one now ≡ other now) where
   pub walk-same : (from : Moment Board) (n : ℕ) → walk one limit from n ≡ walk other limit from n
   walk-same from zero = refl
-  walk-same from (suc n) =
-      let w = walk one limit from n in
-      ap (λ next. walk_onward (λ _. next) limit w) (same w.now) ∙ ap (walk_onward other limit) (walk-same from n)
+  walk-same from (suc n) = search rules
 
 -- so do masks that are the same frame by frame
 module _ {Board : Type 0} (ask : Questions Board) (one other : ℕ → ℕ) (same : (frame : ℕ) → one frame ≡ other frame) where
   inputs-same : (time : ℕ) (next : Next Board) → next_with_inputs ask one time next ≡ next_with_inputs ask other time next
-  inputs-same time (Goes now outputs kind) =
-      ap (λ mask. Goes
-      (if time / frame_ticks == now.time / frame_ticks then now else record now { board = ask.put now.board (Hold mask) }) outputs kind)
-      (same (now.time / frame_ticks + 1))
-  inputs-same time (Ends stop) = refl
+  inputs-same time next = search rules
 
   pub play-same : (now : Moment Board) → play_step ask one now ≡ play_step ask other now
   play-same now = inputs-same now.time (step ask now)

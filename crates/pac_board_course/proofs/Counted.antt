@@ -1,27 +1,17 @@
 -- Walks whose tries are their steps, and walks to two limits.
-use Rattle.std.proofs.Common.{◌≡◌, ℕ, zero, suc, ◌+◌, ◌≤◌, None, Bool, true, false, refl, sym, ap, subst, ◌∙◌, arith}
+use Rattle.std.proofs.Common.{◌≡◌, ℕ, zero, suc, ◌+◌, ◌≤◌, None, Bool, true, false, refl, arith, rules}
 use Rattle.pac_board.specs.ModelLaws.{IsTimely}
-use Rattle.pac_board.specs.Step.{Moment, Next, Goes, Ends}
-use Rattle.pac_board.specs.Walk.{Walk, walk, walk_onward, walk_after_step}
+use Rattle.pac_board.specs.Step.{Moment, Next}
+use Rattle.pac_board.specs.Walk.{Walk, walk, walk_onward}
 use Rattle.pac_board.specs.WalkLaws.{has_ended}
-use Rattle.pac_board.proofs.Walks.{ended-stays, going-steps, going-before, going-counted, goes-further}
+use Rattle.pac_board.proofs.Walks.{ended-stays, going-before, going-counted}
 
 -- ---- steps and tries
 
 module _ {Board : Type 0} (next : Moment Board → Next Board) (limit : ℕ) (timely : (now : Moment Board) → IsTimely now (next now)) where
-  step-most : (from : Moment Board) (n : ℕ) (w : Walk Board) (h : Next Board) → IsTimely w.now h → w.now.steps ≤ from.steps + n
-      → (walk_after_step w h).now.steps ≤ from.steps + suc n
-  step-most from n w (Goes now outputs kind) times most = let one = times.2 in omega arith
-  step-most from n w (Ends stop) times most = omega arith
-
   onward-most : (from : Moment Board) (n : ℕ) (w : Walk Board) (ended : Bool) → has_ended limit w ≡ ended
       → w.now.steps ≤ from.steps + n → (walk_onward next limit w).now.steps ≤ from.steps + suc n
-  onward-most from n w true over most =
-      let more : w.now.steps ≤ from.steps + suc n = omega arith in
-      subst (λ (walked : Walk Board). walked.now.steps ≤ from.steps + suc n) (sym (ended-stays next limit w over)) more
-  onward-most from n w false open_yet most =
-      subst (λ (walked : Walk Board). walked.now.steps ≤ from.steps + suc n) (sym (going-steps next limit w open_yet))
-      (step-most from n w (next w.now) (timely w.now) most)
+  onward-most from n w ended over most = search rules
 
   -- a try makes one step at the most
   walk-most : (from : Moment Board) (n : ℕ) → (walk next limit from n).now.steps ≤ from.steps + n
@@ -32,14 +22,7 @@ module _ {Board : Type 0} (next : Moment Board → Next Board) (limit : ℕ) (ti
   -- where each try made a step, the walk had not ended before the last one
   pub going-if-counted : (from : Moment Board) (n : ℕ) → (walk next limit from (suc n)).now.steps ≡ from.steps + suc n
       → has_ended limit (walk next limit from n) ≡ false
-  going-if-counted from n counted = choose (has_ended limit (walk next limit from n)) refl
-    where
-      choose : (b : Bool) → has_ended limit (walk next limit from n) ≡ b → has_ended limit (walk next limit from n) ≡ false
-      choose true e =
-          let same = ap (λ (w : Walk Board). w.now.steps) (ended-stays next limit (walk next limit from n) e) in
-          let most = walk-most from n in
-          absurd (omega (arith, same, counted, most))
-      choose false e = e
+  going-if-counted from n counted = grind (arith, counted, ended-stays, walk-most)
 
   -- a walk without a stop, by as many tries as it made steps
   abbrev pub IsCounted : Moment Board → ℕ → Type 0
@@ -48,10 +31,7 @@ module _ {Board : Type 0} (next : Moment Board → Next Board) (limit : ℕ) (ti
 
   counted-on : (from : Moment Board) (n : ℕ) (ended : Bool) → has_ended limit (walk next limit from n) ≡ ended
       → (walk next limit from (suc n)).stop ≡ None → ((walk next limit from n).stop ≡ None → IsCounted from n) → IsCounted from (suc n)
-  counted-on from n true e open_yet so_far =
-      let same = ended-stays next limit (walk next limit from n) e in
-      let before = so_far (ap (λ (w : Walk Board). w.stop) (sym same) ∙ open_yet) in
-      (before.0, before.1 ∙ sym same, before.2)
+  counted-on from n true e open_yet so_far = search rules
   counted-on from n false e open_yet so_far = (suc n, refl, (going-counted next limit timely from n e open_yet).steps)
 
   pub counted : (from : Moment Board) (n : ℕ) → (walk next limit from n).stop ≡ None → IsCounted from n
@@ -61,14 +41,9 @@ module _ {Board : Type 0} (next : Moment Board → Next Board) (limit : ℕ) (ti
 -- ---- two limits
 
 module _ {Board : Type 0} (next : Moment Board → Next Board) (first second : ℕ) where
-  further : (w : Walk Board) → first ≤ second → has_ended first w ≡ false → has_ended second w ≡ false
-  further w less going = goes-further next first second w.stop w.now.time less going
-
   step-further : (from : Moment Board) (n : ℕ) → first ≤ second → has_ended first (walk next first from n) ≡ false
       → walk next first from n ≡ walk next second from n → walk next first from (suc n) ≡ walk next second from (suc n)
-  step-further from n less going same =
-      let w = walk next first from n in
-      going-steps next first w going ∙ sym (going-steps next second w (further w less going)) ∙ ap (walk_onward next second) same
+  step-further from n less going same = search rules
 
   -- a walk that goes on is the same to each later limit, and so is one that went on before its last try
   pub going-same : (from : Moment Board) (n : ℕ) → first ≤ second → has_ended first (walk next first from n) ≡ false

@@ -1,6 +1,5 @@
 -- A frame of a course: the board's walk to the frame's end, at which the next one's inputs are held, is on the way on.
-use Rattle.std.proofs.Common.{◌≡◌, ℕ, ◌/◌, ◌<◌, ◌≤◌, Option, None, Some, Bool, true, false, if◌then◌else◌}
-use Rattle.std.proofs.Common.{nat_le, is_some, refl, ◌∙◌, arith}
+use Rattle.std.proofs.Common.{◌≡◌, ℕ, ◌/◌, ◌<◌, ◌≤◌, Option, Bool, true, false, if◌then◌else◌, rules, nat_le, is_some, ◌∙◌, arith}
 use Rattle.std.proofs.lemmas.Bool.Decides.{nat_tests}
 use Rattle.pac_board.specs.Stop.{Stop}
 use Rattle.pac_board.specs.BoardView.{BoardView}
@@ -39,29 +38,19 @@ module _ (course : CourseValue) where
   closed-now : (w : Walk BoardView) (stop : Option Stop) (late : Bool) → (is_some stop ≡ true → late ≡ false)
       → (closed_if ask (held_in course) (frames_ended course) w stop late).now
       ≡ (if late then moment_with_inputs ask (held_in course) w.now else w.now)
-  closed-now w (Some stop) true early = let no = early refl in cc
-  closed-now w (Some stop) false early = refl
-  closed-now w None true early = refl
-  closed-now w None false early = refl
+  closed-now w stop late early = search rules
 
   closed-rest : (w : Walk BoardView) (stop : Option Stop) (late : Bool)
       → ((closed_if ask (held_in course) (frames_ended course) w stop late).outputs ≡ w.outputs)
       × ((closed_if ask (held_in course) (frames_ended course) w stop late).stop ≡ w.stop)
-  closed-rest w (Some stop) late = (refl, refl)
-  closed-rest w None true = (refl, refl)
-  closed-rest w None false = (refl, refl)
+  closed-rest w stop late = search rules
 
   stop-is-early : (tries : ℕ) (stop : Option Stop) → (frame_walk course tries).stop ≡ stop → is_some stop ≡ true
       → nat_le (frame_end course) (frame_walk course tries).now.time ≡ false
-  stop-is-early tries None met is = cc
-  stop-is-early tries (Some stop) met is =
-      let early = stopped-is-early (step ask) (frame_end course) course.board.state.now tries stop met in
-      grind (arith, nat_tests)
+  stop-is-early tries stop met is = grind (arith, nat_tests, stopped-is-early)
 
   pub frame-now : (tries : ℕ) → (frame_closed tries).now ≡ moment_after course (frame_walk course tries).now
-  frame-now tries =
-      let w = frame_walk course tries in
-      closed-now w w.stop (nat_le (frame_end course) w.now.time) (stop-is-early tries w.stop refl)
+  frame-now tries = grind (arith, closed-now, stop-is-early)
 
   pub closed-outputs : (tries : ℕ) → (frame_closed tries).outputs ≡ (frame_walk course tries).outputs
   closed-outputs tries =

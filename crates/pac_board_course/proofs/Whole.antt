@@ -1,27 +1,23 @@
 -- A course from frame to frame, to the end of its run.
-use Rattle.std.proofs.Common.{◌≡◌, ℕ, zero, suc, ◌+◌, ◌-◌, ◌/◌, ◌^◌, ◌<◌, ◌≤◌, ◌++◌, Option, None, Some, true, false}
-use Rattle.std.proofs.Common.{nat_le, is_some, refl, sym, ap, subst, ◌∙◌, if◌then◌else◌, arith}
+use Rattle.std.proofs.Common.{◌≡◌, ℕ, zero, suc, ◌+◌, ◌-◌, ◌<◌, ◌≤◌, ◌++◌, Option, None, Some, true, rules}
+use Rattle.std.proofs.Common.{is_some, refl, sym, ap, subst, ◌∙◌, arith}
 use Rattle.std.proofs.lemmas.Bool.Decides.{nat_tests}
 use mathlib.Core.List.{IsPrefix}
 use Rattle.pac_board.specs.Stop.{Stop}
 use Rattle.pac_board.specs.BoardView.{BoardView, board_after}
 use Rattle.pac_board.specs.Entry.{Hold}
-use Rattle.pac_board.specs.Step.{Moment, Ends, frame_ticks, step}
-use Rattle.pac_board.specs.Trace.{by_view, moment_with_inputs}
+use Rattle.pac_board.specs.Step.{Moment, Ends, step}
+use Rattle.pac_board.specs.Trace.{by_view}
 use Rattle.pac_board.specs.Walk.{Walk, walk_after_step}
-use Rattle.pac_board.proofs.Pieces.{two-parts}
 use Rattle.pac_board.proofs.Runs.{walk-near}
 use Rattle.pac_board.proofs.Sinks.{took-both, cut-along, cut-after, cut-something, prefix-after}
 use Rattle.pac_board.proofs.Walks.{joined, more-joined, goes-on, ended-whole, late-has-ended, step-timely, play-timely}
 use Rattle.pac_board.proofs.Walks.{going-steps, open-goes-on, stopped-has-ended}
 use Rattle.pac_board.specs.ModelLaws.{IsTimely}
 use Rattle.pac_board.specs.SinksLaws.{Giving}
-use Rattle.pac_board.specs.Sinks.{TookAll}
-use Rattle.pac_board.specs.State.{BoardValue, nothing_due, steps_counted}
 use Rattle.pac_inputs.specs.Stretches.{held}
 use Rattle.pac_board_course.proofs.Framed.{frame_walk, moment_after, frames_ended}
 use Rattle.pac_board_course.specs.Course.{CourseValue, held_in, end_of, next_in, way_walked, course_after}
-use Rattle.pac_board_course.specs.CourseProofs.{course_with_due}
 use Rattle.pac_board_course.specs.Frames.{IsUnderway, HasPlayedInFrame, frame_end}
 use Rattle.pac_board_course.specs.Laws.{CoursesGoOn}
 use Rattle.pac_board_course.specs.Plays.{IsOver, IsCourseHeldUp}
@@ -44,21 +40,11 @@ pub held-after : (course : CourseValue) (tries mask : ℕ) → frame_end course 
     → record (frame_walk course tries).now {
       board = board_after course.board.set (frame_walk course tries).now.board (Hold mask);
     } ≡ moment_after course (frame_walk course tries).now
-held-after course tries mask ended masked =
-    let w = frame_walk course tries in
-    let near = frame-near course tries in
-    let late : nat_le (frame_end course) w.now.time ≡ true = grind (arith, nat_tests) in
-    let number : suc (suc (frames_ended course)) ≡ w.now.time / frame_ticks + 1 = omega arith in
-    ap (λ m. record w.now { board = board_after course.board.set w.now.board (Hold m) })
-    (masked ∙ ap (λ n. held course.script (n - course.gone)) number)
-    ∙ ap (λ b. if b then moment_with_inputs (by_view course.board.set) (held_in course) w.now else w.now) (sym late)
+held-after course tries mask ended masked = grind (arith, frame-near, frame_walk, frames_ended, nat_tests)
 
 pub not-held-yet : (course : CourseValue) (tries : ℕ) → (frame_walk course tries).now.time < frame_end course
     → (frame_walk course tries).now ≡ moment_after course (frame_walk course tries).now
-not-held-yet course tries early =
-    let w = frame_walk course tries in
-    let not_late : nat_le (frame_end course) w.now.time ≡ false = grind (arith, nat_tests) in
-    ap (λ b. if b then moment_with_inputs (by_view course.board.set) (held_in course) w.now else w.now) (sym not_late)
+not-held-yet course tries early = search rules
 
 -- ---- a course that goes on from where a walk has brought it
 
@@ -67,19 +53,12 @@ timely course = play-timely (by_view course.board.set) (held_in course)
 
 pub courses-go-on : CoursesGoOn
 courses-go-on course tries =
-    let whole = goes-on (next_in course) (end_of course) (timely course) course.board.state.now tries in
-    record {
-      now = ap (λ (w : Walk BoardView). w.now) whole;
-      stop = ap (λ (w : Walk BoardView). w.stop) whole;
-      outputs = ap (λ (w : Walk BoardView). w.outputs) whole;
-    }
+    let whole = goes-on (next_in course) (end_of course) (timely course) course.board.state.now tries in search rules
 
 -- the course that a later walk brings about is that of both walks
 after-twice : (course : CourseValue) (first second : Walk BoardView) → course.board.state.now.steps ≤ first.now.steps
     → first.now.steps ≤ second.now.steps → course_after (course_after course first) second ≡ course_after course second
-after-twice course first second less more =
-    ap (λ (board : BoardValue). record { board = board; script = course.script; gone = course.gone })
-    (two-parts course.board course.board.state.asked first.now second.now second.now less more refl)
+after-twice course first second less more = search rules
 
 module _ {S : Type 0} (to : Giving S) (old : CourseValue) (sink : S) where
   abbrev first_now : Moment BoardView
@@ -94,27 +73,6 @@ module _ {S : Type 0} (to : Giving S) (old : CourseValue) (sink : S) where
   abbrev there : ℕ → CourseValue
   there tries = course_after old (walked tries)
 
-  pub underway-begins : old.board.state.due ≡ nothing_due → old.board.made < 2 ^ 64 → IsUnderway to.took old sink old sink
-  underway-begins none fits =
-      let same : old.board.made ≡ steps_counted old.board.made (first_now.steps - first_now.steps) = omega arith in
-      record {
-        steps = zero;
-        course =
-            ap (λ due. course_with_due old due) none
-            ∙ ap (λ made. record {
-              board = record {
-                set = old.board.set;
-                state = record { now = first_now; asked = old.board.state.asked; due = nothing_due };
-                made = made;
-              };
-              script = old.script;
-              gone = old.gone;
-            }) same;
-        all_steps = omega arith;
-        open_yet = refl;
-        sink_is = refl;
-      }
-
   -- how many steps a course has behind it
   steps-there : (now : CourseValue) (taker : S) (under : IsUnderway to.took old sink now taker)
       → (walked under.steps).now.steps ≡ first_now.steps + under.steps
@@ -128,38 +86,11 @@ module _ {S : Type 0} (to : Giving S) (old : CourseValue) (sink : S) where
   pub underway-on : (now new : CourseValue) (taker later : S) → IsUnderway to.took old sink now taker
       → IsUnderway to.took now taker new later
       → IsUnderway to.took old sink new later
-  underway-on now new taker later under played =
-      let told = subst (λ course. IsUnderway to.took course taker new later) under.course played in
-      let w = walked under.steps in
-      let more = way_walked (there under.steps) told.steps in
-      let whole = more-walked under.steps told.steps under.open_yet in
-      let steps = steps-there now taker under in
-      let here = ap (λ (course : CourseValue). course.board.state.now.steps) told.course in
-      let last = told.all_steps in
-      record {
-        steps = under.steps + told.steps;
-        course =
-            told.course
-            ∙ after-twice old w more (omega (arith, steps)) (omega (arith, here, last))
-            ∙ ap (course_after old) whole;
-        all_steps = omega (arith, steps, last);
-        open_yet = ap (λ (w : Walk BoardView). w.stop) (sym whole) ∙ told.open_yet;
-        sink_is =
-            subst (λ (w : Walk BoardView). TookAll to.took sink w.outputs later) whole
-            (took-both to.took w.outputs more.outputs sink taker later under.sink_is told.sink_is);
-      }
+  underway-on now new taker later under played = grind (arith, after-twice, more-walked, steps-there, took-both)
 
   pub underway-ends : (now : CourseValue) (taker : S) → IsUnderway to.took old sink now taker
       → end_of now ≤ now.board.state.now.time → IsOver to.took old sink None now taker
-  underway-ends now taker under over =
-      let late = subst (λ (course : CourseValue). end_of course ≤ course.board.state.now.time) under.course over in
-      let whole =
-      ended-whole (next_in old) (end_of old) (timely old) first_now under.steps (late-has-ended (end_of old) (walked under.steps) late) in
-      record {
-        course = under.course ∙ ap (course_after old) whole;
-        stop_is = sym under.open_yet ∙ ap (λ (w : Walk BoardView). w.stop) whole;
-        sink_is = subst (λ (w : Walk BoardView). TookAll to.took sink w.outputs taker) whole under.sink_is;
-      }
+  underway-ends now taker under over = grind (arith, ended-whole, late-has-ended, timely)
 
   pub underway-held-up : (now new : CourseValue) (taker later : S) → IsUnderway to.took old sink now taker
       → IsCourseHeldUp to now taker new later → IsCourseHeldUp to old sink new later
@@ -172,10 +103,7 @@ module _ {S : Type 0} (to : Giving S) (old : CourseValue) (sink : S) where
       let last = told.all_steps in
       record {
         steps = under.steps + told.steps;
-        course =
-            told.course
-            ∙ ap (λ (course : CourseValue). course_with_due course new.board.state.due)
-            (after-twice old w more (omega (arith, steps)) (omega (arith, here, last)) ∙ ap (course_after old) whole);
+        course = grind (arith, after-twice);
         all_steps = omega (arith, steps, last);
         cut =
             cut-along (ap (λ (w : Walk BoardView). w.outputs) (sym whole)) refl
@@ -205,20 +133,13 @@ module _ {S : Type 0} (to : Giving S) (old : CourseValue) (sink : S) where
       let on = underway-on now new taker later under went.played in
       let w = walked on.steps in
       let here = ap (λ (course : CourseValue). course.board.state.now) on.course in
-      let within = frame-within now early in
       let ends = ap end_of under.course in
       let time = ap (λ (now : Moment BoardView). now.time) here in
-      let soon : w.now.time < end_of old = omega (arith, within, ends, time, went.ending.0) in
+      let soon : w.now.time < end_of old = omega (arith, ends, time, went.ending.0) in
       let meets : next_in old w.now ≡ Ends stop
-      = ap (next_in old) (sym here) ∙ ap (λ (course : CourseValue). next_in course new.board.state.now) (sym under.course)
-      ∙ went.ending.1 in
+      = cc (here, under.course, went.ending.1) in
       let onward = going-steps (next_in old) (end_of old) w (open-goes-on (end_of old) w on.open_yet soon) ∙ ap (walk_after_step w) meets in
       let whole =
       sym onward
       ∙ ended-whole (next_in old) (end_of old) (timely old) first_now (suc on.steps)
-      (stopped-has-ended (end_of old) (walked (suc on.steps)) stop (ap (λ (w : Walk BoardView). w.stop) onward)) in
-      record {
-        course = on.course ∙ ap (course_after old) whole;
-        stop_is = ap (λ (w : Walk BoardView). w.stop) whole;
-        sink_is = subst (λ (w : Walk BoardView). TookAll to.took sink w.outputs later) whole on.sink_is;
-      }
+      (stopped-has-ended (end_of old) (walked (suc on.steps)) stop (ap (λ (w : Walk BoardView). w.stop) onward)) in search rules

@@ -9,16 +9,10 @@ use std::alloc::{AllocError, Global};
 use std::marker::Model;
 
 /// What the table of a part says. Clauses see the bytes of the file's name, and those of the digest.
+#[derive(Drop)]
 pub struct PartEntry {
     file: Option<String>,
     digest: Option<[u8; 20]>,
-}
-
-impl Drop for PartEntry {
-    /// Drops each part.
-    fn drop(self) {
-        let PartEntry { file: _, digest: _ } = self;
-    }
 }
 
 impl Model for PartEntry {
@@ -31,6 +25,7 @@ impl Model for PartEntry {
 }
 
 /// What a manifest says: an entry for each part that it has a table for.
+#[derive(Drop)]
 pub struct Manifest {
     /// The four ROMs of the program, lowest addresses first.
     pub program: Option<[PartEntry; 4]>,
@@ -46,21 +41,6 @@ pub struct Manifest {
     pub wave: Option<PartEntry>,
     /// The timing PROM.
     pub timing: Option<PartEntry>,
-}
-
-impl Drop for Manifest {
-    /// Drops each part.
-    fn drop(self) {
-        let Manifest {
-            program: _,
-            tiles: _,
-            sprites: _,
-            colours: _,
-            lookup: _,
-            wave: _,
-            timing: _,
-        } = self;
-    }
 }
 
 impl PartEntry {

@@ -22,6 +22,7 @@ pub enum ReadFault<'a> {
 }
 
 /// The files of a run whose names the command line gives, as they were read.
+#[derive(Drop)]
 pub struct Given {
     /// The source, if there is one.
     pub source: Option<Vec<u8>>,
@@ -29,17 +30,6 @@ pub struct Given {
     pub manifest: Vec<u8>,
     /// The script.
     pub script: Vec<u8>,
-}
-
-impl Drop for Given {
-    /// Drops each part.
-    fn drop(self) {
-        let Given {
-            source: _,
-            manifest: _,
-            script: _,
-        } = self;
-    }
 }
 
 /// Reads the file of a path; a fault tells this name.

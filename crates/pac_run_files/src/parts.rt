@@ -15,18 +15,12 @@ use pac_roms_manifest::{Manifest, Part, SetError, read_manifest};
 use std::alloc::{AllocError, Global};
 
 /// A file whose name the manifest gives, as it was read.
+#[derive(Drop)]
 pub struct NamedFile {
     /// The name.
     pub name: String,
     /// What is in it.
     pub bytes: Vec<u8>,
-}
-
-impl Drop for NamedFile {
-    /// Drops each part.
-    fn drop(self) {
-        let NamedFile { name: _, bytes: _ } = self;
-    }
 }
 
 /// The manifest, where it has none of the faults that keep its parts from being read. Refused for want of memory alone.
