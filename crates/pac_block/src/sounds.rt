@@ -1,8 +1,9 @@
 //! The sink of a call for some time: a host's buffer.
 
 ghost use Rattle.pac_board.specs.Output.{Sound};
+ghost use Rattle.pac_board.specs.Sinks.{TookAll};
 ghost use Rattle.pac_board.specs.SinksLaws.{IsOffer, by};
-ghost use Rattle.std.specs.Prelude.{◌≡◌, ◌<◌, ◌-◌};
+ghost use Rattle.std.specs.Prelude.{◌≡◌, ◌≤◌, ◌<◌, ◌-◌, length, map};
 ghost use Rattle.pac_block.specs.Sounding.{sounding_took, sounding_refused, sounding_room};
 
 use pac_board::{Picture, Refused, Sink};
@@ -41,6 +42,17 @@ impl Sounds<'_> {
         self.samples[self.taken] = sample;
         self.taken += 1;
     }
+
+    /// Writes samples that there is room for after the others.
+    #[inline(always)]
+    fn keep_each(&mut self, samples: &[i16])
+        requires { length samples.now ≤ sounding_room self.old }
+        ensures { TookAll sounding_took self.old (map Sound samples.now) self.new }
+    {
+        for sample in samples {
+            self.keep(*sample);
+        }
+    }
 }
 
 impl Sink for Sounds<'_> {
@@ -56,11 +68,13 @@ impl Sink for Sounds<'_> {
         self.samples.len().saturating_sub(self.taken)
     }
 
-    /// Writes samples after the others.
+    /// Writes samples after the others. Nearly always they are five, those of a line: then the compiler knows how much it copies, and needs no
+    /// call for it.
     #[inline]
     fn samples(&mut self, samples: &[i16]) {
-        for sample in samples {
-            self.keep(*sample);
+        match samples.as_array::<5>() {
+            Some(line) => self.keep_each(line),
+            None => self.keep_each(samples),
         }
     }
 

@@ -22,7 +22,7 @@ impl Machine {
             map: Map {
                 set: RomSet::zeroed(),
                 memory: Memory::new(switches),
-                touched: false,
+                look: 0,
             },
             wave: Wave::new(),
             picture: Picture::zeroed(),

@@ -41,14 +41,14 @@ impl<'a> Stops<'a> {
         Stops { marks: Some(marks) }
     }
 
-    /// The time from which on steps look where they begin: at once where there is a map, and else never before the time at which they end.
+    /// The time from which on steps look where they begin: 1 where there is a map, for no step ends at 0, and else the time at which they end.
     /// A call, so that a loop of steps compares with this time alone: where the compiler knows how it's made, each step looks at both parts.
     #[inline(never)]
     pub(crate) fn first_look(&self, end: u64) -> u64
         ensures { result ≡ first_look self.now end }
     {
         match self.marks {
-            Some(_) => 0,
+            Some(_) => 1,
             None => end,
         }
     }

@@ -1,6 +1,6 @@
 -- For proofs: what proofs say of the definitions of Contents.antt.
 use Rattle.pac_map.specs.declared.board_bus.Map.{Map}
-use Rattle.std.specs.Prelude.{ℕ, fold, ◌||◌}
+use Rattle.std.specs.Prelude.{ℕ, fold, if◌then◌else◌}
 use Rattle.pac_map.specs.Contents.{read_of}
 use Rattle.pac_map.specs.Lookups.{port_byte}
 use Rattle.pac_bus.specs.Action.{Action}
@@ -14,9 +14,9 @@ map_byte_at map address = read_of map.set.program map.memory address
 abbrev pub map_input_at : Map → ℕ → ℕ
 map_input_at map port = port_byte port
 
--- the bus after an action of the processor; whether sound was touched is noted beside the memory
+-- the bus after an action of the processor; that sound was touched is noted beside the memory, by a 0
 abbrev pub map_after_action : Map → Action → Map
 map_after_action map action = record map {
   memory = fold view_after map.memory (entries_of action);
-  touched = touches_sound action || map.touched;
+  look = if touches_sound action then 0 else map.look;
 }

@@ -104,7 +104,8 @@ impl Wave {
             return 0;
         }
         self.settings.follow(registers);
-        self.positions.next(&self.settings, prom)
+        self.positions
+            .next(&self.settings, &self.settings.walks(), prom)
     }
 
     /// The next sound samples, as many as there is room for, while the registers and whether sound is on stay as they are: what so many

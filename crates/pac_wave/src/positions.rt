@@ -2,14 +2,14 @@
 
 ghost use Rattle.std.specs.Prelude.{◌≡◌, true, length};
 ghost use Rattle.pac_wave.specs.Batch.{accumulators_after_many, sound_samples};
-ghost use Rattle.pac_wave.specs.Settings.{IsLevel};
+ghost use Rattle.pac_wave.specs.Settings.{IsLevel, walks_of};
 ghost use Rattle.pac_wave.specs.Wave.{Fit20Bits};
 ghost use Rattle.pac_wave.specs.WaveLaws.{accumulators_of_list};
 ghost use Rattle.pac_wave.specs.Wave as spec;
 ghost use Rattle.pac_wave.specs.WaveProofs as wave_proofs;
 
 use crate::Voice;
-use crate::settings::Settings;
+use crate::settings::{Settings, Walks};
 use std::marker::Model;
 
 /// 4096 times the accumulators, which have 20 bits each.
@@ -94,23 +94,25 @@ impl Positions {
 
     /// The next sound sample while sound is on, after which the voices move on.
     #[inline(always)]
-    pub(crate) fn next(&mut self, settings: &Settings, prom: &[u8; 256]) -> i16
+    pub(crate) fn next(&mut self, settings: &Settings, walks: &Walks, prom: &[u8; 256]) -> i16
+        requires { walks.now ≡ walks_of settings.now }
         ensures sample { result ≡ spec.sound_sample prom.now settings.now (spec.accumulator self.old) true }
         ensures accumulators { self.new ≡ spec.accumulators_after settings.now true self.old }
         ensures within { wave_proofs.IsSample result }
     {
         let sample = mixed(
-            settings.level(prom, Voice::First, self.first / 4096),
-            settings.level(prom, Voice::Second, self.second / 4096),
-            settings.level(prom, Voice::Third, self.third / 4096),
+            settings.level(prom, Voice::First, walks.first, self.first / 4096),
+            settings.level(prom, Voice::Second, walks.second, self.second / 4096),
+            settings.level(prom, Voice::Third, walks.third, self.third / 4096),
         );
-        self.first = settings.grown(Voice::First, self.first);
-        self.second = settings.grown(Voice::Second, self.second);
-        self.third = settings.grown(Voice::Third, self.third);
+        self.first = settings.grown(Voice::First, walks.first, self.first);
+        self.second = settings.grown(Voice::Second, walks.second, self.second);
+        self.third = settings.grown(Voice::Third, walks.third, self.third);
         sample
     }
 
-    /// The next sound samples while sound is on, as many as there is room for. Meanwhile the positions stay in registers of the machine.
+    /// The next sound samples while sound is on, as many as there is room for. Meanwhile the positions, and how the voices walk, stay in
+    /// registers of the machine.
     #[inline]
     pub(crate) fn fill(&mut self, settings: &Settings, prom: &[u8; 256], samples: &mut [i16])
         ensures samples { samples.new
@@ -118,9 +120,10 @@ impl Positions {
         ensures accumulators { self.new
             ≡ accumulators_after_many settings.now true self.old (length samples.old) }
     {
+        let walks = settings.walks();
         let mut now = self.copied();
         for sample in samples.iter_mut() {
-            *sample = now.next(settings, prom);
+            *sample = now.next(settings, &walks, prom);
         }
         self.copy_from(&now);
     }

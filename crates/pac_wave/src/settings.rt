@@ -2,21 +2,36 @@
 
 ghost use Rattle.std.specs.Prelude.{◌≡◌, ◌<◌, ◌≤◌, ◌+◌, ◌*◌, ◌/◌, ◌%◌, ℕ, true, take, drop};
 ghost use Rattle.std.specs.Int.{w64, to_le_bytes};
-ghost use Rattle.pac_wave.specs.Settings.{IsLevel, levels_at, voice_setting};
+ghost use Rattle.pac_wave.specs.Settings.{IsLevel, levels_at, voice_setting, voice_walk, walks_of};
 ghost use Rattle.pac_wave.specs.Wave as spec;
 
 use crate::{Voice, amplified};
 use std::marker::Model;
 
+/// How a voice walks through its waveform.
+#[derive(Clone, Copy)]
+pub(crate) struct Walk {
+    /// Where the waveform begins in the wave PROM, 0 to 224.
+    pub(crate) start: usize,
+    /// 4096 times its frequency, of 20 bits.
+    pub(crate) step: u32,
+}
+
+/// How the three voices walk.
+#[derive(Clone, Copy)]
+pub(crate) struct Walks {
+    pub(crate) first: Walk,
+    pub(crate) second: Walk,
+    pub(crate) third: Walk,
+}
+
 /// What the registers say of a voice.
 #[derive(Clone, Copy)]
 pub(crate) struct Setting {
-    /// The number of its waveform, 0 to 7.
-    pub(crate) waveform: u8,
+    /// How it walks.
+    pub(crate) walk: Walk,
     /// What each sample of a waveform, 0 to 15, comes to at its volume.
     pub(crate) levels: [i16; 16],
-    /// Its frequency, 20 bits.
-    pub(crate) frequency: u32,
 }
 
 /// What a register holds: its low four bits.
@@ -121,14 +136,24 @@ fn level_of(levels: &[i16; 16], sample: u8) -> i16
     levels[usize::from(sample)]
 }
 
+/// How the registers say that a voice walks.
+#[inline]
+fn read_walk(registers: &[u8; 32], voice: Voice) -> Walk
+    ensures { result ≡ voice_walk registers.now voice }
+{
+    Walk {
+        start: 32 * usize::from(waveform(registers, voice)),
+        step: 4096 * frequency(registers, voice),
+    }
+}
+
 /// What the registers say of a voice.
 fn read_setting(registers: &[u8; 32], voice: Voice) -> Setting
     ensures { result ≡ voice_setting registers.now voice }
 {
     Setting {
-        waveform: waveform(registers, voice),
+        walk: read_walk(registers, voice),
         levels: levels(volume(registers, voice)),
-        frequency: frequency(registers, voice),
     }
 }
 
@@ -206,9 +231,7 @@ impl Settings {
     #[inline(always)]
     fn setting(&self, voice: Voice) -> &Setting
         ensures setting { result.now ≡ voice_setting self.now voice }
-        ensures waveform { result.now.waveform < 8 }
         ensures volume { spec.volume self.now voice < 16 }
-        ensures frequency { result.now.frequency < spec.accumulator_range }
     {
         match voice {
             Voice::First => &self.first,
@@ -217,25 +240,38 @@ impl Settings {
         }
     }
 
-    /// What a voice puts into the sound, from the wave PROM's 256 bytes.
+    /// How each voice walks: by value, so that it can stay in registers of the machine while samples are written.
     #[inline(always)]
-    pub(crate) fn level(&self, prom: &[u8; 256], voice: Voice, accumulator: u32) -> i16
+    pub(crate) fn walks(&self) -> Walks
+        ensures { result ≡ walks_of self.now }
+    {
+        Walks {
+            first: self.first.walk,
+            second: self.second.walk,
+            third: self.third.walk,
+        }
+    }
+
+    /// What a voice that walks so puts into the sound, from the wave PROM's 256 bytes.
+    #[inline(always)]
+    pub(crate) fn level(&self, prom: &[u8; 256], voice: Voice, walk: Walk, accumulator: u32) -> i16
+        requires walk { walk ≡ voice_walk self.now voice }
         requires accumulator { accumulator < spec.accumulator_range }
         ensures level { result ≡ spec.level prom.now self.now voice accumulator }
         ensures within { IsLevel result }
     {
-        let setting = self.setting(voice);
-        let place = 32 * usize::from(setting.waveform) + (accumulator / 32768) as usize;
-        level_of(&setting.levels, prom[place] % 16)
+        let place = walk.start + (accumulator / 32768) as usize;
+        level_of(&self.setting(voice).levels, prom[place] % 16)
     }
 
     /// 4096 times an accumulator, a sample later: so it has all the bits of its word, and no sum needs a mask.
     #[inline(always)]
-    pub(crate) fn grown(&self, voice: Voice, position: u32) -> u32
+    pub(crate) fn grown(&self, voice: Voice, walk: Walk, position: u32) -> u32
+        requires walk { walk ≡ voice_walk self.now voice }
         requires whole { position % 4096 ≡ 0 }
         ensures grown { result / 4096 ≡ spec.grown_accumulator self.now voice (position / 4096) }
         ensures whole { result % 4096 ≡ 0 }
     {
-        position.wrapping_add(4096 * self.setting(voice).frequency)
+        position.wrapping_add(walk.step)
     }
 }

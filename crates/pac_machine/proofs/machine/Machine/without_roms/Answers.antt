@@ -1,4 +1,4 @@
-use Rattle.std.proofs.Common.{ap, refl, sym, ◌∙◌, rules}
+use Rattle.std.proofs.Common.{ap, sym, ◌∙◌, rules}
 use Rattle.pac_map.specs.RomParts.{Parts}
 use Rattle.pac_map.specs.PartsProofs.{zero_parts}
 use Rattle.pac_picture.specs.LayerProofs.{zero_roms}
@@ -17,5 +17,4 @@ invariant_of-result c = record {
   palette =
       ap (λ (picture : PictureState). picture.palette) c.zeroed-2.ensures.picture
       ∙ sym (ap (λ (set : Parts). palette_of set.colours) c.zeroed.ensures);
-  touched = refl;
 }

@@ -3,7 +3,7 @@ use Rattle.std.proofs.Common.{◌≡◌, ◌-◌, map, take}
 use Rattle.pac_board.specs.Output.{Sound}
 use Rattle.pac_board.specs.Sinks.{TookAll}
 use Rattle.pac_block.specs.Sounding.{sounding_took, sounding_room}
-use Rattle.pac_block.proofs.sounds.SoundsSink.samples.Given as goal
+use Rattle.pac_block.proofs.sounds.Sounds.keep_each.Given as goal
 
 abbrev pub invariant-loop-sample : goal.invariant-loop-sample
 invariant-loop-sample l = record {

@@ -5,7 +5,7 @@ use mir.Syntax.{w16}
 use mir.Val.{to_z, of_z}
 use Rattle.pac_board.proofs.Sinks.{took-more}
 use Rattle.pac_block.specs.Sounding.{sounding_took}
-use Rattle.pac_block.proofs.sounds.SoundsSink.samples.Goals as goal
+use Rattle.pac_block.proofs.sounds.Sounds.keep_each.Goals as goal
 
 pub loop-sample-preserved : goal.loop-sample-preserved
 loop-sample-preserved c =
