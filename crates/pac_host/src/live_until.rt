@@ -14,9 +14,7 @@ use pac_block::ran::told;
 use pac_block::roms::chunk;
 use pac_block::sounds::Sounds;
 use pac_block::{HostFault, PacRan};
-use pac_board::{
-    Access, Board, LATEST, Stop, Stops, Trail, Unwatched, Watch, WatchedAddresses,
-};
+use pac_board::{Access, Board, LATEST, Stop, Stops, Trail, Unwatched, Watch, WatchedAddresses};
 use std::mem::forget;
 
 /// Why a call ended.
@@ -88,11 +86,13 @@ fn access_told(board: &Board, met: Option<Access>) -> (u8, u16, u8, u8)
 {
     match met {
         None => (0, 0, 0, 0),
-        Some(Access::Write {
-            address,
-            before,
-            written,
-        }) => (1, address, before, written),
+        Some(
+            Access::Write {
+                address,
+                before,
+                written,
+            },
+        ) => (1, address, before, written),
         Some(Access::Read { address }) => {
             let now = board.peek(address);
             (2, address, now, now)
