@@ -241,12 +241,12 @@ int main(void)
     } calls[] = {
         {"pac_init", init, 32}, {"pac_hold", hold, 32}, {"pac_exec", exec, 208}, {"pac_draw", draw, 32}, {"pac_peek", peek, 32},
         {"pac_reset", reset, 32}, {"pac_save", save, 32}, {"pac_load", load, 32}, {"pac_load of version 1", load_old, 32},
-        {"pac_live_open", live_open, 32}, {"pac_live_hold", live_hold, 32}, {"pac_live_exec", live_exec, 80}, {"pac_live_step", live_step, 32}, {"pac_live_until", live_until, 32},
+        {"pac_live_open", live_open, 32}, {"pac_live_hold", live_hold, 32}, {"pac_live_exec", live_exec, 32}, {"pac_live_step", live_step, 32}, {"pac_live_until", live_until, 32},
         {"pac_live_peek", live_peek, 32}, {"pac_live_registers", live_registers, 32}, {"pac_live_draw", live_draw, 32}, {"pac_live_lines", live_lines, 32},
         {"pac_live_save", live_save, 32}, {"pac_live_load", live_load, 32},
         {"pac_live_load of version 1", live_load_old, 32}, {"pac_live_give", live_give, 32}, {"pac_live_put", live_put, 32},
         {"pac_live_put of no program", live_put_none, 32}, {"pac_live_reset", live_reset, 32}, {"pac_live_step at a stop", live_step, 32}, {"pac_live_until at a stop", live_until, 32},
-        {"pac_live_exec at a stop", live_exec, 80}, {"pac_live_close", live_close, 32},
+        {"pac_live_exec at a stop", live_exec, 32}, {"pac_live_close", live_close, 32},
     };
     lay_old();
     memset(none, 0xED, sizeof none);
