@@ -1,7 +1,7 @@
 /* The proved board as a C library: Namco's Pac-Man main board, all of whose state is one block of bytes that the host owns.
  * Made by tools/make/make-header from the declarations of crates/pac_host and from the definitions that their contracts cite.
  *
- * The library keeps nothing between calls, takes no memory but the stack (208 KB at most by pac_exec, 80 KB by pac_live_exec, 32 KB by each
+ * The library keeps nothing between calls, takes no memory but the stack (208 KB at most by pac_exec, 32 KB by each
  * other call), and calls nothing of the host. So a copy of a `pac_board` is a snapshot, which may be kept, compared and run again, and boards
  * in different threads don't touch. docs/HOSTS.md goes through a host of one's own.
  *
