@@ -1,11 +1,9 @@
 -- A session at the beginning of its run.
-use Rattle.std.proofs.Common.{◌≡◌, ℕ, zero, suc, ◌+◌, ◌≤◌, List, [], ◌∷◌, length, map, replicate, None}
-use Rattle.std.proofs.Common.{refl, sym, ap, subst, ◌∙◌, arith}
+use Rattle.std.proofs.Common.{◌≡◌, ℕ, zero, suc, ◌+◌, ◌≤◌, List, [], ◌∷◌, length, map, replicate, None, refl, sym, ap, subst, ◌∙◌, arith}
 use Rattle.pac_board_course.specs.Stretches.{held}
 use Rattle.pac_board_course.specs.Stretch.{Stretch}
-use Rattle.pac_board_course.specs.RomParts.{Parts}
 use Rattle.pac_board_course.proofs.Walks.{not-both}
-use Rattle.pac_board_course.specs.State.{BoardValue, BoardState, nothing_due, power_on_board, board_with_inputs}
+use Rattle.pac_board_course.specs.State.{BoardValue, BoardState, board_with_inputs}
 use Rattle.pac_board_course.specs.PastStep.{PastStep}
 use Rattle.pac_debug_session.specs.declared.kept.SessionSnapshot.{SessionSnapshot}
 use Rattle.pac_debug_session.specs.declared.kept.SlotContents.{SlotContents}
@@ -68,9 +66,6 @@ module _ (board new : BoardValue) (script : List Stretch) (switches : ℕ) (same
       ∙ ap (λ (s : BoardState). (after s).state.now) fresh
       ∙ ap (λ n. now_at (record { set = board.set; switches = n; script = script }) 0) (sym same)
 
-  new-due : new.state.due ≡ nothing_due
-  new-due = ap (λ (b : BoardValue). b.state.due) hold ∙ ap (λ (s : BoardState). s.due) fresh
-
   pub new-asked : new.state.asked ≡ 0
   new-asked = ap (λ (b : BoardValue). b.state.asked) hold ∙ ap (λ (s : BoardState). s.asked) fresh
 
@@ -115,7 +110,3 @@ module _ (board new : BoardValue) (script : List Stretch) (switches : ℕ) (same
       }) board.made) { slots = marks }) (four-marks slots count empty)
 
 -- ---- boards
-
--- a board that was just made is a new one
-pub made-is-new : (board : BoardValue) (set : Parts) (switches : ℕ) → board ≡ power_on_board set switches → IsNew board
-made-is-new board set switches is = subst IsNew (sym is) refl

@@ -10,8 +10,7 @@ use Rattle.pac_board_course.specs.Trace.{by_view, frame_steps}
 use Rattle.pac_board_course.specs.Walk.{Walk, onward_if, walk_after_step}
 use Rattle.pac_board_course.specs.WalkLaws.{has_ended}
 use Rattle.pac_board_course.proofs.Runs.{runs-end}
-use Rattle.pac_board_course.proofs.Walks.{going-before, going-far, going-is-early, going-steps, ended-for-good, not-both}
-use Rattle.pac_board_course.proofs.Walks.{stopped-has-ended}
+use Rattle.pac_board_course.proofs.Walks.{going-before, going-far, going-is-early, going-steps, ended-for-good, not-both, stopped-has-ended}
 use Rattle.pac_board_course.proofs.Counted.{going-if-counted}
 use Rattle.pac_debug_session.specs.Running.{Setting, IsLeast, play_of, run, now_at, next_from, next_at, limit, is_late, stop_in, stop_at}
 use Rattle.pac_debug_session.specs.Running.{goes_at}

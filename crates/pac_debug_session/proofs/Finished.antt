@@ -1,6 +1,5 @@
 -- To the end of a run: what was due, and what the run gives from there on.
-use Rattle.std.proofs.Common.{◌≡◌, ℕ, Bool, true, false, not, ◌&&◌, ◌||◌, nat_lt, ◌<◌, length, drop, ◌++◌, refl, sym, ap, subst}
-use Rattle.std.proofs.Common.{◌∙◌, arith}
+use Rattle.std.proofs.Common.{◌≡◌, ℕ, Bool, true, false, not, ◌&&◌, ◌||◌, nat_lt, ◌<◌, length, drop, ◌++◌, refl, sym, ap, subst, ◌∙◌, arith}
 use Rattle.std.proofs.lemmas.Bool.Decides.{nat_tests}
 use Rattle.pac_board_course.proofs.Walks.{not-both}
 use Rattle.pac_board_course.proofs.Sinks.{took-both, cut-after, prefix-after}

@@ -1,5 +1,5 @@
 -- A run at its indices: where it goes on, each index is one step, and each step takes its time.
-use Rattle.std.proofs.Common.{◌≡◌, ℕ, zero, suc, ◌+◌, ◌<◌, ◌≤◌, Bool, true, false, ◌&&◌, not, is_none, Option, None, Some}
+use Rattle.std.proofs.Common.{◌≡◌, ℕ, zero, suc, ◌<◌, Bool, true, false, ◌&&◌, not, is_none, Option, None, Some}
 use Rattle.std.proofs.Common.{List, ◌++◌, length, drop, refl, sym, ap, subst, ◌∙◌, arith}
 use Rattle.std.proofs.lemmas.Bool.Decides.{nat_tests}
 use Rattle.std.proofs.Math.Seq.{drop-append_seam}
@@ -18,8 +18,7 @@ use Rattle.pac_debug_session.specs.Running.{outputs_between}
 -- ---- tests
 
 both : (late none : Bool) → (not late && none) ≡ true → (late ≡ false) × (none ≡ true)
-both false true e = (refl, refl)
-both false false e = not-both (sym e)
+both false none e = (refl, e)
 both true none e = not-both (sym e)
 
 none-is : {A : Type 0} (found : Option A) → is_none found ≡ true → found ≡ None
@@ -103,33 +102,6 @@ module _ (setting : Setting) where
       let on = goes-on index here in
       (one-more index on.now on.outputs on.kind (open-up-to index (λ earlier less. goes earlier (omega arith)))
       (goes-early index here) on.is).stands
-
-  -- each of the steps that it goes on takes its time
-  record Grows (from count : ℕ) : Type 0 where
-    pub stands : IsOpen (from + count)
-    pub longer : (now_at setting from).time + count ≤ (now_at setting (from + count)).time
-
-  grows : (from count : ℕ) → IsOpen from
-      → ((earlier : ℕ) → from ≤ earlier → earlier < from + count → goes_at setting earlier ≡ true) → Grows from count
-  grows from zero before goes =
-      let same : from ≡ from + 0 = omega arith in
-      let time = ap (λ index. (now_at setting index).time) same in
-      record { stands = subst IsOpen same before; longer = omega arith }
-  grows from (suc count) before goes =
-      let so_far = grows from count before (λ earlier after less. goes earlier after (omega arith)) in
-      let here = goes (from + count) (omega arith) (omega arith) in
-      let on = goes-on (from + count) here in
-      let one = one-more (from + count) on.now on.outputs on.kind so_far.stands (goes-early (from + count) here) on.is in
-      let same : suc (from + count) ≡ from + suc count = omega arith in
-      let time = ap (λ index. (now_at setting index).time) same in
-      let longer = so_far.longer in
-      let later = one.later in
-      record { stands = subst IsOpen same one.stands; longer = omega arith }
-
-  pub times-grow : (from count : ℕ) → IsOpen from
-      → ((earlier : ℕ) → from ≤ earlier → earlier < from + count → goes_at setting earlier ≡ true)
-      → (now_at setting from).time + count ≤ (now_at setting (from + count)).time
-  times-grow from count before goes = (grows from count before goes).longer
 
   -- ---- what is given out
 

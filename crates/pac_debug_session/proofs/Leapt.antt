@@ -1,23 +1,22 @@
 -- Steps of a session in one go, by what the course's call answered: what stands before them stands after them.
-use Rattle.std.proofs.Common.{◌≡◌, ℕ, zero, suc, ◌+◌, ◌-◌, ◌*◌, ◌/◌, ◌%◌, ◌==◌, ◌<◌, ◌≤◌, Bool, true, false, min, max, nat_lt}
-use Rattle.std.proofs.Common.{if◌then◌else◌, Option, None, Some, Result, Ok, Err, List, [], ◌∷◌, ◌++◌, refl, sym, ap, subst, ◌∙◌, arith}
+use Rattle.std.proofs.Common.{◌≡◌, ℕ, zero, suc, ◌+◌, ◌-◌, ◌*◌, ◌/◌, ◌%◌, ◌==◌, ◌<◌, ◌≤◌, Bool, true, min, max, nat_lt, rules}
+use Rattle.std.proofs.Common.{if◌then◌else◌, Option, None, Some, Result, Ok, Err, List, [], ◌∷◌, refl, sym, ap, subst, ◌∙◌, arith}
 use Rattle.std.specs.List.{list_any}
+use Rattle.std.proofs.lemmas.Bool.{cases_lt}
 use Rattle.std.proofs.lemmas.Bool.Decides.{nat_tests}
-use Rattle.circular_buffer.specs.Buffer.{keep_last}
 use mathlib.Core.List.{IsPrefix}
 use Rattle.pac_board_course.specs.TurnsProofs.{board_at}
 use Rattle.pac_board_course.specs.BoardView.{BoardView}
-use Rattle.pac_board_course.specs.Calls.{now_after}
 use Rattle.pac_board_course.specs.Course.{CourseValue, next_in, way_walked}
 use Rattle.pac_board_course.specs.Frames.{GoesTold, HasEndedBy, frame_end}
 use Rattle.pac_board_course.specs.ModelLaws.{IsTimely}
 use Rattle.pac_board_course.specs.PastStep.{PastStep}
 use Rattle.pac_board_course.specs.SinksLaws.{Giving}
 use Rattle.pac_board_course.specs.Sinks.{TookAll}
-use Rattle.pac_board_course.specs.State.{BoardValue, due_outputs_in, steps_counted}
+use Rattle.pac_board_course.specs.State.{BoardValue, steps_counted}
 use Rattle.pac_board_course.specs.Step.{Moment, Next, Goes, frame_ticks}
 use Rattle.pac_board_course.specs.Stop.{Stop}
-use Rattle.pac_board_course.specs.Trails.{noted_step, stepped, noted, told_of}
+use Rattle.pac_board_course.specs.Trails.{stepped, noted}
 use Rattle.pac_board_course.specs.Walk.{Walk}
 use Rattle.pac_board_course.proofs.Sinks.{cut-along, cut-something}
 use Rattle.pac_board_course.proofs.Trails.{kept-joined}
@@ -27,12 +26,12 @@ use Rattle.pac_debug_session.specs.declared.motion.Motion.{Motion}
 use Rattle.pac_debug_session.specs.declared.session.Session.TheInside.{Inside}
 use Rattle.pac_debug_session.specs.Keeping.{Ring}
 use Rattle.pac_debug_session.specs.Motions.{checkpoint_steps, moved_to}
-use Rattle.pac_debug_session.specs.Past.{past_steps, past_of, told_at, told_step_count}
+use Rattle.pac_debug_session.specs.Past.{told_at}
 use Rattle.pac_debug_session.specs.Playing.{course_of}
-use Rattle.pac_debug_session.specs.Running.{now_at, stop_in, goes_at, outputs_between}
+use Rattle.pac_debug_session.specs.Running.{now_at, goes_at, outputs_between}
 use Rattle.pac_debug_session.specs.Session.{SessionValue}
 use Rattle.pac_debug_session.specs.Strides.{MeetNothing, IsLeap, LeapEnds, IsLeapt, HasLeapt, IsLeapRefused, Leaps, stop_unless}
-use Rattle.pac_debug_session.specs.Strides.{HasStrode, Strides, heeds, heeded_by, longest_stride}
+use Rattle.pac_debug_session.specs.Strides.{HasStrode, Strides, heeds, longest_stride}
 use Rattle.pac_debug_session.proofs.Ends.{goes-if-counted}
 use Rattle.pac_debug_session.proofs.Forwards.{between-self}
 use Rattle.pac_debug_session.proofs.Indices.{IsOpen, open-up-to, one-more, goes-on, goes-early, timely}
@@ -83,11 +82,7 @@ module _ (old : SessionValue) (within : old.index ≤ old.furthest)
     pub told : Some (told_at old.setting (old.index + n)) ≡ noted next from told_here n
 
   reached : (n : ℕ) → ((earlier : ℕ) → earlier < old.index + n → goes_at old.setting earlier ≡ true) → IsReached n
-  reached zero on =
-      let here : old.index + 0 ≡ old.index = omega arith in
-      let now_is = ap (now_at old.setting) here in
-      let time = ap (λ (m : Moment BoardView). m.time) now_is in
-      record { now_is = now_is; time = omega arith; told = ap (λ n. Some (told_at old.setting n)) here }
+  reached zero on = search rules
   reached (suc n) goes =
       let before = reached n (λ earlier less. goes earlier (omega arith)) in
       let place : ℕ = old.index + n in
@@ -98,25 +93,11 @@ module _ (old : SessionValue) (within : old.index ≤ old.furthest)
       let one = one-more old.setting place on.now on.outputs on.kind so_open (goes-early old.setting place here) on.is in
       let following : suc place ≡ old.index + suc n = omega arith in
       let times = subst (λ (h : Next BoardView). IsTimely there h) on.is (timely old.setting there) in
-      let least = times.0 in
-      let so_far = before.time in
       let comes : next (stepped next from n) ≡ Goes on.now on.outputs on.kind
       = ap next (sym before.now_is) ∙ steps-same old opened there ∙ on.is in
       let now_there : now_at old.setting (old.index + suc n) ≡ on.now = ap (now_at old.setting) (sym following) ∙ one.now_is in
       let time = ap (λ (m : Moment BoardView). m.time) now_there in
-      let line : List PastStep = record { index = place; pc = there.regs.pc; kind = on.kind } ∷ [] in
-      record {
-        now_is = now_there ∙ sym (ap (λ h. now_after h (stepped next from n)) comes);
-        time = omega arith;
-        told = ap (λ n. Some (told_at old.setting n)) (sym following)
-            ∙ ap (λ h. Some (keep_last told_step_count (past_steps old.setting place ++ past_of place there h))) on.is
-            ∙ ap Some (sym (kept-joined told_step_count (past_steps old.setting place) line))
-            ∙ ap (λ k. Some (keep_last told_step_count
-            (told_at old.setting place ++ record { index = k; pc = there.regs.pc; kind = on.kind } ∷ []))) (sym so_open.steps)
-            ∙ ap (λ t. noted_step t there (Goes on.now on.outputs on.kind)) before.told
-            ∙ ap (λ m. noted_step (noted next from told_here n) m (Goes on.now on.outputs on.kind)) before.now_is
-            ∙ ap (noted_step (noted next from told_here n) (stepped next from n)) (sym comes);
-      }
+      let line : List PastStep = record { index = place; pc = there.regs.pc; kind = on.kind } ∷ [] in grind (arith, kept-joined, there)
 
   -- ---- where the course's call leaves the board
 
@@ -129,11 +110,10 @@ module _ (old : SessionValue) (within : old.index ≤ old.furthest)
       → board ≡ board_at (course_of old).board (way_walked (course_of old) tries).now board.state.due
       → board.state.now.steps ≡ from.steps + tries → IsThere board tries
   is-there board tries is all =
-      let first = opened.steps in
       let now = ap (λ (b : BoardValue). b.state.now) is in
       record {
         now_is = now ∙ ap (λ (w : Walk BoardView). w.now) (run-walked old opened tries);
-        steps = omega arith;
+        steps = omega (arith, opened.steps);
         board_is = is ∙ ap (λ now. board_at (course_of old).board now board.state.due) (sym now);
       }
 
@@ -173,40 +153,25 @@ module _ (old : SessionValue) (within : old.index ≤ old.furthest)
       reached-here n less = reached n (λ earlier before. goes-all earlier (omega arith))
 
       as-many : gone.told_is.count ≡ tries
-      as-many = let first = opened.steps in let steps = gone.told_is.steps in let all = stands.steps in omega arith
+      as-many = omega (arith, opened.steps, gone.told_is.steps, stands.steps)
 
       told-there : told ≡ told_at old.setting new.state.now.steps
-      told-there =
-          ap told_of
-          (gone.told_is.told_is ∙ ap (noted next from told_here) as-many ∙ sym (reached-here tries (omega arith)).told)
-          ∙ ap (told_at old.setting) (sym stands.steps)
+      told-there = grind (arith, as-many, reached-here, stands)
 
       -- each of them begins before the limit, and in the frame under way
       begun-at : (n : ℕ) → n < tries → (now_at old.setting (old.index + n)).time < min limit (frame_end (course_of old))
-      begun-at n less =
-          let so_many = as-many in
-          subst (λ (m : Moment BoardView). m.time < min limit (frame_end (course_of old))) (sym (reached-here n (omega arith)).now_is)
-          (gone.told_is.begun n (omega arith))
+      begun-at n less = grind (arith, as-many, reached-here)
 
       frame-at : (n : ℕ) → n < tries → (now_at old.setting (old.index + n)).time / frame_ticks ≡ from.time / frame_ticks
       frame-at n less =
-          let here = reached-here n (omega arith) in
-          let later = here.time in in-frame from.time (now_at old.setting (old.index + n)).time limit (omega arith) (begun-at n less)
-        where
-          in-frame : (time now limit : ℕ) → time ≤ now → now < min limit (frame_ticks * suc (time / frame_ticks))
-              → now / frame_ticks ≡ time / frame_ticks
-          in-frame time now limit after before = omega arith
+          omega (arith, (reached-here n (omega arith)).time, begun-at n less)
 
       few-steps : (fits : ℕ) → limit ≡ from.time + 4 * fits → tries ≤ fits
       few-steps fits limit_is = choose tries refl
         where
           choose : (n : ℕ) → tries ≡ n → n ≤ fits
           choose zero is = omega arith
-          choose (suc m) is =
-              let early = begun-at m (omega arith) in
-              let here = reached-here m (omega arith) in
-              let later = here.time in
-              omega arith
+          choose (suc m) is = omega (arith, begun-at m (omega arith), (reached-here m (omega arith)).time)
 
       nothing-met : (heeded : List ℕ) → AreStops stops heeded → MeetNothing old.setting heeded old.index new.state.now.steps
       nothing-met heeded are =
@@ -237,9 +202,7 @@ module _ (old : SessionValue) (within : old.index ≤ old.furthest)
           }) opened.steps
 
       now-then : new.state.now ≡ now_at (seen_on new).setting new.state.now.steps
-      now-then =
-          stands.now_is ∙ ap (now_at old.setting) (sym stands.steps)
-          ∙ sym (ap (λ (b : BoardValue). now_at (seen_on b).setting new.state.now.steps) stands.board_is)
+      now-then = grind (arith, stands)
 
       -- ---- what stands after them
 
@@ -255,60 +218,20 @@ module _ (old : SessionValue) (within : old.index ≤ old.furthest)
             → IsStanding (seen_on new).setting new.state.now told (seen_on new).furthest ring
         stands-then ring left =
             let all = stands.steps in
-            let few = left.few in
-            let enough = left.enough in
-            let past_index = left.past in
             let less = few-steps fits limit_is in
             subst (λ set. IsStanding (record old.setting { set = set }) new.state.now told (max old.furthest new.state.now.steps) ring)
-            (sym (ap (λ (b : BoardValue). b.set) stands.board_is)) (record {
-              now_is = stands.now_is ∙ ap (now_at old.setting) (sym stands.steps);
-              within = omega arith;
-              history_is = told-there;
-              goes = λ earlier before. seen earlier before (nat_lt earlier old.furthest) refl;
-              few = omega arith;
-              enough = omega arith;
-              all = left.all;
-              checkpoints = left.checkpoints;
-            })
-          where
-            seen : (earlier : ℕ) → earlier < max old.furthest new.state.now.steps → (before : Bool) → nat_lt earlier old.furthest ≡ before
-                → goes_at old.setting earlier ≡ true
-            seen earlier less true e = goes earlier (grind (arith, nat_tests))
-            seen earlier less false e =
-                let all = stands.steps in goes-all earlier (grind (arith, nat_tests))
+            (sym (ap (λ (b : BoardValue). b.set) stands.board_is)) (grind (arith, cases_lt, goes-all, stands, told-there))
 
         leap-of : (heeded : List ℕ) → AreStops stops heeded → IsLeap old heeded most new.state.now.steps
-        leap-of heeded are =
-            let all = stands.steps in
-            let less = few-steps fits limit_is in
-            record { after = omega arith; few = omega arith; unmet = nothing-met heeded are }
+        leap-of heeded are = record {
+          after = omega (arith, stands.steps);
+          few = omega (arith, stands.steps, few-steps fits limit_is);
+          unmet = nothing-met heeded are;
+        }
 
         ends-so : (found : Option Stop) → HasEndedBy (course_of old) found (course_on old new)
             → LeapEnds old (if nat_lt old.index new.state.now.steps then None else found) new.state.now.steps
-        ends-so found ended = choose (nat_lt old.index new.state.now.steps) refl found ended
-          where
-            choose : (b : Bool) → nat_lt old.index new.state.now.steps ≡ b → (found : Option Stop)
-                → HasEndedBy (course_of old) found (course_on old new)
-                → LeapEnds old (if b then None else found) new.state.now.steps
-            choose true e found ended =
-                let all = stands.steps in
-                let more : old.index < new.state.now.steps = grind (arith, nat_tests) in
-                let last = reached-here tries (omega arith) in
-                let time = last.time in
-                let here = ap (λ n. (now_at old.setting n).time) stands.steps in
-                (more, omega arith)
-            choose false e None ended =
-                let all = stands.steps in
-                let same : old.index + tries ≡ old.index = grind (arith, nat_tests) in
-                let time = ap (λ (m : Moment BoardView). m.time) (stands.now_is ∙ ap (now_at old.setting) same) in
-                absurd (omega arith)
-            choose false e (Some stop) ended =
-                let all = stands.steps in
-                let same : old.index + tries ≡ old.index = grind (arith, nat_tests) in
-                let now = stands.now_is ∙ ap (now_at old.setting) same in (
-                  omega arith,
-                  ap stop_in (sym (steps-same old opened from) ∙ ap next (sym now) ∙ ended.1),
-                )
+        ends-so found ended = grind (arith, nat_tests, reached-here, stands, steps-same)
 
   -- ---- by the answer
 
@@ -320,16 +243,12 @@ module _ (old : SessionValue) (within : old.index ≤ old.furthest)
         (seen_on new) later
     leapt-so {E} found gone =
         let answer : Result (Option Stop) E = Ok found in
-        let first = opened.steps in
-        let steps = gone.made.played.all_steps in
-        let all : new.state.now.steps ≡ old.index + gone.made.played.steps = omega arith in
+        let all : new.state.now.steps ≡ old.index + gone.made.played.steps = omega (arith, opened.steps) in
         record {
           leapt = record {
             leap = leap-of to sink later limit stops new told answer gone most fits limit_is fits_is heeded are;
             ending = ends-so to sink later limit stops new told answer gone most fits limit_is fits_is found gone.made.ending;
-            session = value-there to sink later limit stops new told answer gone
-                ∙ ap (λ due. record (moved_to old new.state.now.steps) { due = due })
-                (ap (λ (c : CourseValue). c.board.state.due) gone.made.played.course);
+            session = grind (arith, value-there);
           };
           sink_is =
               subst (λ xs. TookAll to.took sink xs later)
@@ -344,21 +263,17 @@ module _ (old : SessionValue) (within : old.index ≤ old.furthest)
         choose : (n : ℕ) → gone.made.steps ≡ n → IsLeapRefused to old heeded most sink (seen_on new) later
         choose zero is = cut-something gone.made.cut (ap (λ n. (way_walked (course_of old) n).outputs) is)
         choose (suc last) is =
-            let first = opened.steps in
-            let steps = gone.made.all_steps in
-            let all : new.state.now.steps ≡ old.index + gone.made.steps = omega arith in
+            let all : new.state.now.steps ≡ old.index + gone.made.steps = omega (arith, opened.steps) in
             record {
               last = old.index + last;
-              index = omega arith;
-              after = omega arith;
+              index = omega (arith, opened.steps);
+              after = omega (arith, opened.steps);
               leap = leap-of to sink later limit stops new told (Err refusal) gone most fits limit_is fits_is heeded are;
               session = value-there to sink later limit stops new told (Err refusal) gone;
               cut =
                   cut-along (ap (outputs_between old.setting old.index) all ∙ given-walked old opened gone.made.steps)
-                  (ap (λ (now : Moment BoardView). due_outputs_in new.set now.board new.state.due)
-                  (now-then to sink later limit stops new told (Err refusal) gone)) gone.made.cut;
-              of_last =
-                  subst (λ xs. IsPrefix xs gone.made.cut.taken) (sym (given-walked old opened last)) (gone.made.of_last last is);
+                  (cc (now-then to sink later limit stops new told (Err refusal) gone)) gone.made.cut;
+              of_last = subst (λ xs. IsPrefix xs gone.made.cut.taken) (sym (given-walked old opened last)) (gone.made.of_last last is);
             }
 
     pub leaps-so : {E : Type 0} (result : Result (Option Stop) E) → Gone old to sink later limit stops new told result
@@ -372,20 +287,7 @@ pub taken-up : {S E : Type 0} (to : Giving S) (inside : Inside) (right : IsInsid
     → GoesTold to (course_on (session_view inside) board) limit stops (Some inside.history) sink result
     (course_on (session_view inside) new) (Some told) later
     → Gone (session_view inside) to sink later limit stops new told result
-taken-up to inside right board new limit stops sink later result told is gone =
-    subst (λ history. GoesTold to (course_of old) limit stops (Some history) sink result (course_on old new) (Some told) later)
-    right.standing.history_is
-    (subst (λ course. GoesTold to course limit stops (Some inside.history) sink result (course_on old new) (Some told) later) begins gone)
-  where
-    old : SessionValue
-    old = session_view inside
-
-    begins : course_on old board ≡ course_of old
-    begins = ap (course_on old) is ∙ (λ i. course_on old (record {
-      set = inside.board.value.set;
-      state = record { now = right.standing.now_is i; asked = right.unasked i; due = inside.board.value.state.due };
-      made = inside.board.value.made;
-    }))
+taken-up to inside right board new limit stops sink later result told is gone = search rules
 
 -- ---- on behalf of a motion
 
@@ -394,43 +296,10 @@ module _ {S : Type 0} (to : Giving S) (old new : SessionValue) (motion : Motion)
   -- from the furthest index on what they give is fresh
   pub strode-fresh : {E : Type 0} (result : Result (Option Stop) E) → old.index ≡ old.furthest
       → Leaps to old (heeded_if heeded old.breakpoints) most sink result new later → Strides to old motion from sink result new later
-  strode-fresh result fresh leaps =
-      choose result
-      (subst (λ b. Leaps to old (heeded_if b old.breakpoints) (longest_stride motion (old.index - from)) sink result new later)
-      heeded_is (subst (λ n. Leaps to old (heeded_if heeded old.breakpoints) n sink result new later) most_is leaps))
-    where
-      choose : {E : Type 0} (result : Result (Option Stop) E)
-          → Leaps to old (heeded_by motion old.breakpoints) (longest_stride motion (old.index - from)) sink result new later
-          → Strides to old motion from sink result new later
-      choose (Ok stop) one =
-          let after = one.leapt.leap.after in
-          let furthest = ap (λ (s : SessionValue). s.furthest) one.leapt.session in
-          let far : new.index ≡ new.furthest = omega arith in
-          record {
-            leapt = one.leapt;
-            sink_is = subst (λ xs. TookAll to.took sink xs later) (λ i. outputs_between old.setting (fresh i) (far i)) one.sink_is;
-          }
-      choose (Err refusal) held = record { fresh = fresh; held = held }
+  strode-fresh result fresh leaps = search rules
 
   -- and before it the sink was given it
   pub strode-stale : (asked : ℕ) (stop : Option Stop) → asked ≡ min most (old.furthest - old.index)
       → old.index ≤ old.furthest → IsLeapt old (heeded_if heeded old.breakpoints) asked stop new
       → HasStrode to.took old motion from sink stop new sink
-  strode-stale asked stop asked_is within leapt =
-      let few = leapt.leap.few in
-      let furthest = ap (λ (s : SessionValue). s.furthest) leapt.session in
-      let far : new.furthest ≡ old.furthest = omega arith in
-      record {
-        leapt = record {
-          leap = record {
-            after = leapt.leap.after;
-            few = omega arith;
-            unmet = subst (λ b. MeetNothing old.setting (heeded_if b old.breakpoints) old.index new.index) heeded_is leapt.leap.unmet;
-          };
-          ending = leapt.ending;
-          session = leapt.session;
-        };
-        sink_is =
-            subst (λ xs. TookAll to.took sink xs sink)
-            (sym (ap (outputs_between old.setting old.furthest) far ∙ between-self old.setting old.furthest)) refl;
-      }
+  strode-stale asked stop asked_is within leapt = grind (arith, between-self)

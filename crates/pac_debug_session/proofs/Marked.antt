@@ -1,10 +1,9 @@
 -- The map of all addresses marks those that are breakpoints.
-use Rattle.std.proofs.Common.{◌≡◌, ◌<◌, ℕ, zero, suc, ◌==◌, ◌||◌, not, Bool, true, false, List, [], ◌∷◌, ◌++◌, length, filter, Some}
+use Rattle.std.proofs.Common.{◌≡◌, ◌<◌, ℕ, zero, suc, ◌==◌, not, Bool, true, false, List, [], length, filter, Some}
 use Rattle.std.proofs.Common.{slice_index, slice_set, replicate, refl, sym, ap, ◌∙◌, arith}
 use Rattle.std.specs.List.{list_any}
 use Rattle.std.proofs.lemmas.Bool.Decides.{nat_tests}
 use Rattle.std.proofs.lemmas.List.{get_or-set_same, get_or-set_other}
-use Rattle.std.proofs.lemmas.List.Folds.{list_any-append}
 use Rattle.std.proofs.lemmas.Map.Views.{any-filter_same}
 use Rattle.pac_debug_session.specs.Breakpoints.{AreStops}
 
@@ -18,31 +17,6 @@ pub none-marked : (n : ℕ) → AreStops (Some (replicate n 0)) []
 none-marked n at = ap (λ byte. not (byte == 0)) (zeros-at n at)
 
 module _ (marks xs : List ℕ) (address : ℕ) (there : address < length marks) (so_far : AreStops (Some marks) xs) where
-  -- one more
-  pub one-marked : AreStops (Some (slice_set marks address 1)) (xs ++ address ∷ [])
-  one-marked at = choose (address == at) refl
-    where
-      choose : (b : Bool) → (address == at) ≡ b
-          → not (slice_index (slice_set marks address 1) at == 0) ≡ list_any (λ other. other == at) (xs ++ address ∷ [])
-      choose true e =
-          let same : at ≡ address = grind (arith, nat_tests) in
-          ap (λ byte. not (byte == 0)) (ap (slice_index (slice_set marks address 1)) same ∙ get_or-set_same marks address 1 0 there)
-          ∙ sym (list_any-append (λ other. other == at) xs (address ∷ []) ∙ ap (λ b. list_any (λ other. other == at) xs || (b || false)) e
-          ∙ or-true (list_any (λ other. other == at) xs))
-        where
-          or-true : (b : Bool) → (b || true) ≡ true
-          or-true true = refl
-          or-true false = refl
-      choose false e =
-          ap (λ byte. not (byte == 0)) (get_or-set_other marks address at 1 0 (λ same. absurd (grind (arith, nat_tests))))
-          ∙ so_far at
-          ∙ sym (list_any-append (λ other. other == at) xs (address ∷ []) ∙ ap (λ b. list_any (λ other. other == at) xs || (b || false)) e
-          ∙ or-false (list_any (λ other. other == at) xs))
-        where
-          or-false : (b : Bool) → (b || false) ≡ b
-          or-false true = refl
-          or-false false = refl
-
   -- one less
   pub one-unmarked : AreStops (Some (slice_set marks address 0)) (filter (λ other. not (other == address)) xs)
   one-unmarked at = choose (address == at) refl

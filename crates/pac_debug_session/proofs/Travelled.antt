@@ -1,7 +1,7 @@
 -- A motion is steps forwards, one after another, up to the least index at which it rests.
 use Rattle.std.proofs.Common.{◌≡◌, ℕ, suc, ◌+◌, ◌-◌, ◌^◌, ◌==◌, ◌<◌, ◌≤◌, Bool, true, false, not, ◌&&◌, ◌||◌, is_none, max, nat_lt}
-use Rattle.std.proofs.Common.{nat_le, if◌then◌else◌, Option, None, Some, ◌++◌, refl, sym, ap, subst, ◌∙◌, arith}
-use Rattle.std.proofs.lemmas.Bool.{or_parts}
+use Rattle.std.proofs.Common.{nat_le, if◌then◌else◌, Option, None, Some, ◌++◌, refl, sym, ap, subst, ◌∙◌, arith, inl, inr}
+use Rattle.std.proofs.lemmas.Bool.{and_parts, and_right, cases_lt, or_parts, or_right}
 use Rattle.std.proofs.lemmas.Bool.Decides.{nat_tests}
 use mathlib.Core.List.{IsPrefix}
 use Rattle.pac_board_course.specs.Stop.{Stop}
@@ -23,9 +23,8 @@ use Rattle.pac_debug_session.specs.declared.motion.MotionEnd.{MotionEnd}
 use Rattle.pac_debug_session.specs.declared.motion.MotionEnd.TheVariants.{AtStop, AtEnd, AtBreakpoint, AtFrame, AtStep}
 use Rattle.pac_debug_session.specs.declared.motion.Motion.{Motion}
 use Rattle.pac_debug_session.specs.declared.motion.Motion.TheVariants.{Steps, Continue, Frames, ToEnd}
-use Rattle.pac_debug_session.specs.Motions.{is_done, has_met, rests, motion_ending, RestsBy, moved_to}
+use Rattle.pac_debug_session.specs.Motions.{is_done, has_met, rests, motion_ending, RestsBy, moved_to, HasTravelled}
 use Rattle.pac_debug_session.specs.MotionsProofs.{stop_of}
-use Rattle.pac_debug_session.specs.Motions.{HasTravelled}
 use Rattle.pac_debug_session.specs.MotionsLaws.{IsTravelRefused}
 use Rattle.pac_debug_session.specs.Running.{Setting, play_of, run, now_at, next_from, next_at, limit, is_late, stop_in, stop_at}
 use Rattle.pac_debug_session.specs.RunningLaws.{whole_run}
@@ -48,26 +47,13 @@ counted-sum made a b c ab bc = omega arith
 
 module _ (s : SessionValue) (motion : Motion) (from : ℕ) where
   rests-late : (index : ℕ) → is_late s.setting index ≡ true → rests s motion from index ≡ true
-  rests-late index late = choose (has_met s motion from index)
-    where
-      here : not (goes_at s.setting index) ≡ true
-      here = ap (λ over. not (not over && is_none (stop_at s.setting index))) late
-
-      choose : (met : Bool) → (met || not (goes_at s.setting index)) ≡ true
-      choose true = refl
-      choose false = here
+  rests-late index late = or_right _ _ (ap (λ over. not (not over && is_none (stop_at s.setting index))) late)
 
   rests-stopped : (index : ℕ) (stop : Stop) → is_late s.setting index ≡ false → stop_at s.setting index ≡ Some stop
       → rests s motion from index ≡ true
-  rests-stopped index stop early met = choose (has_met s motion from index)
-    where
-      here : not (goes_at s.setting index) ≡ true
-      here =
-          ap (λ over. not (not over && is_none (stop_at s.setting index))) early ∙ ap (λ found. not (is_none found)) met
-
-      choose : (met : Bool) → (met || not (goes_at s.setting index)) ≡ true
-      choose true = refl
-      choose false = here
+  rests-stopped index stop early met =
+      or_right _ _
+      (ap (λ over. not (not over && is_none (stop_at s.setting index))) early ∙ ap (λ found. not (is_none found)) met)
 
   rests-met : (index : ℕ) → has_met s motion from index ≡ true → rests s motion from index ≡ true
   rests-met index met = ap (λ done. done || not (goes_at s.setting index)) met
@@ -77,11 +63,7 @@ module _ (s : SessionValue) (motion : Motion) (from : ℕ) where
 
 -- a motion to the end meets nothing before it
 pub never-met : {A : Type 0} (s : SessionValue) (from index : ℕ) → has_met s ToEnd from index ≡ true → A
-never-met s from index met = choose (nat_lt from index) met
-  where
-    choose : {A : Type 0} (b : Bool) → (b && false) ≡ true → A
-    choose true e = not-both (sym e)
-    choose false e = not-both (sym e)
+never-met s from index met = not-both (sym (and_parts _ _ met).1)
 
 -- the word for it
 pub met-by : (s : SessionValue) (motion : Motion) (from index : ℕ) → is_late s.setting index ≡ false → has_met s motion from index ≡ true
@@ -97,18 +79,13 @@ met-by s ToEnd from index early met = never-met s from index met
 
 -- ---- within a stride
 
-met-false : (later done : Bool) → done ≡ false → (later && done) ≡ false
-met-false true done undone = undone
-met-false false done undone = refl
-
 -- a stride that begins on no breakpoint comes to none before its end
 unbroken-within : (s : SessionValue) (until at : ℕ) → breaks_at s s.index ≡ false → MeetNothing s.setting s.breakpoints s.index until
     → s.index ≤ at → at < until → breaks_at s at ≡ false
-unbroken-within s until at unbroken alike after before = choose (nat_lt s.index at) refl
-  where
-    choose : (b : Bool) → nat_lt s.index at ≡ b → breaks_at s at ≡ false
-    choose true e = alike.breaks at (grind (arith, nat_tests)) before
-    choose false e = let same : at ≡ s.index = grind (arith, nat_tests) in ap (breaks_at s) same ∙ unbroken
+unbroken-within s until at unbroken alike after before = elim (cases_lt s.index at) [
+  | inl past ↦ alike.breaks at past before
+  | inr here ↦ let same : at ≡ s.index = omega arith in ap (breaks_at s) same ∙ unbroken
+]
 
 -- so within a stride nothing is met, and counted steps are left
 undone-within : (s : SessionValue) (from : ℕ) (motion : Motion) (until at : ℕ) → from < s.index → is_done s motion from s.index ≡ false
@@ -162,7 +139,7 @@ module _ (s : SessionValue) (motion : Motion) (from : ℕ) (after : from ≤ s.i
             let more : from < s.index = grind (arith, nat_tests) in
             let few : until ≤ s.index + steps_left motion (s.index - from)
             = subst (λ (b : Bool). until ≤ s.index + stride_by b) e leap.few in
-            met-false (nat_lt from index) (is_done s motion from index)
+            and_right (nat_lt from index) (is_done s motion from index)
             (undone-within s from motion until index more (undone more)
             (record { after = leap.after; few = few; unmet = leap.unmet }) later less)
 
@@ -233,16 +210,13 @@ module _ {S : Type 0} (to : Giving S) (old : SessionValue) (motion : Motion) (si
     module _ (unmet : has_met s motion from s.index ≡ false) (new : SessionValue)
         (leap : IsLeap s (heeded_by motion s.breakpoints) (longest_stride motion (s.index - from)) new.index) where
       restless-on : (earlier : ℕ) → old.index ≤ earlier → earlier < new.index → rests old motion old.index earlier ≡ false
-      restless-on earlier since less = choose (nat_lt earlier s.index) refl
-        where
-          choose : (b : Bool) → nat_lt earlier s.index ≡ b → rests old motion old.index earlier ≡ false
-          choose true e = under.restless earlier since (grind (arith, nat_tests))
-          choose false e =
-              let after = under.after in
-              let later : s.index ≤ earlier = grind (arith, nat_tests) in
-              subst (λ (t : SessionValue). rests t motion old.index earlier ≡ false) under.session
-              (subst (λ n. rests s motion n earlier ≡ false) from_is
-              (restless-within s motion from (omega arith) unmet new.index leap earlier later less))
+      restless-on earlier since less = elim (cases_lt earlier s.index) [
+        | inl before ↦ under.restless earlier since before
+        | inr later ↦
+            subst (λ (t : SessionValue). rests t motion old.index earlier ≡ false) under.session
+            (subst (λ n. rests s motion n earlier ≡ false) from_is
+            (restless-within s motion from (omega (arith, under.after)) unmet new.index leap earlier later less))
+      ]
 
     pub underway-more : (new : SessionValue) (later : S) (stop : Option Stop) → has_met s motion from s.index ≡ false
         → HasStrode to.took s motion from taker stop new later → IsUnderway new later

@@ -5,9 +5,8 @@ use Rattle.pac_board_course.specs.Course.{CourseValue, next_in}
 use Rattle.pac_board_course.specs.Frames.{frame_end}
 use Rattle.pac_board_course.specs.PastStep.{PastStep}
 use Rattle.pac_board_course.specs.Step.{Moment, Next}
-use Rattle.pac_board_course.specs.Trails.{IsNoted}
+use Rattle.pac_board_course.specs.Trails.{IsNoted, told_of}
 use Rattle.pac_board_course.proofs.Noted.{noted-at}
-use Rattle.pac_board_course.specs.Trails.{told_of}
 use Rattle.pac_debug_session.proofs.Histories.{some-there, noted-there}
 use Rattle.pac_debug_session.proofs.history.History.go.Goals as goal
 
