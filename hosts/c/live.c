@@ -33,7 +33,7 @@ enum {
     STEP_CALLS = 8, /* calls of a microsecond, in which a step of a block comes */
     PLACES = 65536, /* bytes of a set */
     STOPS = 19000,  /* at addresses of a set, at least */
-    ACCESSES = 4000, /* to watched addresses, of each kind, at least */
+    ACCESSES = 500, /* to watched addresses, of each kind, at least */
     CUTS = 60,      /* frames whose time is cut, of a list */
 };
 
@@ -347,7 +347,7 @@ static void until_both(pair *it)
     lay_places(it), lay_watched(it);
     for (uint32_t left = 1 + below(it, 16); left > 0 && number(&it->block, PAC_AT_TIME, 8) < MOST_ASKED * 3; left--) {
         size_t room = below(it, 4) != 0 ? ROOM : below(it, 6), length = below(it, 16) != 0 ? PLACES : below(it, 2) * below(it, PLACES + 2);
-        size_t watched = below(it, 3) == 0 ? PLACES : below(it, 40) != 0 ? 0 : below(it, PLACES + 2);
+        size_t watched = below(it, 2) == 0 ? PLACES : below(it, 40) != 0 ? 0 : below(it, PLACES + 2);
         uint32_t ticks = below(it, 12) != 0 ? below(it, 1500) : below(it, 3) * below(it, watched != 0 ? 6000 : 60000);
         ticks = below(it, 200) != 0 || watched != 0 ? ticks : UINT32_MAX;
         pac_until *told = &it->by_live.until;
