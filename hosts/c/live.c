@@ -33,7 +33,7 @@ enum {
     STEP_CALLS = 8, /* calls of a microsecond, in which a step of a block comes */
     PLACES = 65536, /* bytes of a set */
     STOPS = 19000,  /* at addresses of a set, at least */
-    ACCESSES = 200, /* to watched addresses, of each kind, at least */
+    ACCESSES = 100, /* to watched addresses, of each kind, at least */
     CUTS = 60,      /* frames whose time is cut, of a list */
 };
 
