@@ -11,7 +11,8 @@ import tarfile
 import tempfile
 import time
 
-ROOT = pathlib.Path(__file__).resolve().parent.parent
+HERE = pathlib.Path(__file__).resolve().parent
+ROOT = HERE.parent
 OUT = ROOT / "hosts/out"
 KEPT = OUT / "checked"  # what the kit's checks of each crate keep: the library for C and the module for a page rest on the same proofs
 LINE = re.compile(r"(\w+)( +staticlib)?(?: +[\w=]+)*: *(.*)")
@@ -125,8 +126,8 @@ def lay_kit(flags, to, kept, target="", edit=None):
 
 
 def run(rt, folder, *words, declaring=""):
-    """Runs `rt` with these words in the folder of a crate, over what is proved below it, and tells how far it is; ends where it fails. The
-    crates that are named as declaring may declare functions of C."""
+    """Runs `rt`, or hosts/anew, with these words in the folder of a crate, over what is proved below it, and tells how far it is; ends where it
+    fails. The crates that are named as declaring may declare functions of C."""
     begun, command = time.monotonic(), f"rt {words[0]}"
     with tempfile.TemporaryFile("w+") as said:
         with subprocess.Popen([rt, *words], cwd=folder, env=os.environ | {"RT_ALLOW_C": declaring}, stdout=said, stderr=subprocess.STDOUT) as process:
@@ -196,7 +197,7 @@ def build(name, kind, file, to, proof, flags=(), swapped="", lay=None, target=""
 
     The flags are for the compiler, and the script for the bitcode that it gets. What an earlier build of either kind has checked, and nothing has changed since, isn't checked again. Beside
     the file, with the end .bc, stands the bitcode of which the compiler made it. A crate that is swapped may declare functions of C, and all
-    crates above it are proved over it there. A target is that of another processor.
+    crates above it are proved over it there, in the gate by hosts/anew. A target is that of another processor.
     """
     table = crates()
     if not table.get(name, (False, []))[0]:
@@ -204,10 +205,14 @@ def build(name, kind, file, to, proof, flags=(), swapped="", lay=None, target=""
     above = {crate for crate in crates_below(table, name) if swapped in crates_below(table, crate)}
     with laid(table, name, kind, proof, swapped, lay) as folder:
         crates_kept, place = [*above, *([swapped] if swapped else []), name], f"{name}-{swapped}" if swapped else name
+        is_anew = bool(swapped) and proof.is_of_ci
+        place += "-anew" if is_anew else ""  # (what hosts/anew builds stands on nothing that another check has kept)
         for crate in crates_kept:
             built = folder / "crates" / crate / "out"
             shutil.rmtree(built, ignore_errors=True)  # (what was proved over the crate that was swapped isn't so here)
             take_kept(place, crate, built)
+        for crate in [it for it in table if is_anew and it in {swapped, *above}]:
+            run(HERE / "anew", folder / "crates" / crate, crate, declaring=swapped)
         (OUT / to).parent.mkdir(parents=True, exist_ok=True)
         rt = lay_kit(flags, folder / "kit", (OUT / to).with_suffix(".bc"), target, edit)
         run(rt, folder / "crates" / name, "lib", *jobs(proof), declaring=swapped)

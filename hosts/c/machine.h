@@ -1,12 +1,9 @@
-/* One live board with its ROMs, as the players in hosts/libretro and hosts/sdl hold it. They make pacboard.h's calls on `live`; here is what those
- * leave to a host: memory and ROMs. Each call answers a code of pacboard.h. */
+/* One live board with its ROMs, as the players in hosts/libretro and hosts/sdl hold it. They make pacboard.h's calls on `live`; here is what
+ * those leave to a host: memory, ROMs and content. Where nothing else is said, a call answers a code of pacboard.h. */
 #ifndef PAC_MACHINE_H
 #define PAC_MACHINE_H
 
-#include "../pacboard.h"
-
-#include <stdlib.h>
-#include <string.h>
+#include "content.h"
 
 enum {
     MACHINE_ALIGNED = 16,                 /* where the memory of a live board begins */
@@ -30,6 +27,14 @@ static inline uint32_t machine_open(machine *it, const uint8_t *roms, uint8_t sw
     if (code == PAC_DONE)
         memmove(it->roms, roms, PAC_ROMS_SIZE);
     return code;
+}
+
+/* Puts a board at power-on with the content of a path: what is wrong, and NULL where nothing is. */
+static inline const char *machine_load(machine *it, const char *path, uint8_t switches)
+{
+    static uint8_t roms[PAC_ROMS_SIZE];
+    const char *wrong = pac_matches() ? content_read(path, roms) : "the header is another library's";
+    return wrong != NULL ? wrong : machine_open(it, roms, switches) != PAC_DONE ? "the board isn't made" : NULL;
 }
 
 /* Gives the memory back. */

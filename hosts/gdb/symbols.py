@@ -13,7 +13,7 @@ import struct
 import sys
 from typing import NamedTuple
 
-MACHINE, EXECUTABLE, LITTLE, BITS_32 = 220, 2, 1, 1  # of ELF: Z80
+MACHINE, Z80, EXECUTABLE, LITTLE, BITS_32 = 220, 1, 2, 1, 1  # of ELF: processors of Z80's kind, and that one
 PROGBITS, SYMTAB, STRTAB, ABSOLUTE = 1, 2, 3, 0xFFF1
 ROM_SIZE, CODE_AT = 0x4000, 52 + 32  # bytes, and the program's place in the file
 ROW = re.compile(r"(\d{5}|     ) ([0-9A-F]{4}) ((?:[0-9A-F]{2}){1,4}) *(?: |$)")
@@ -106,7 +106,7 @@ def elf_of(listing: str, source: bytes) -> bytes:
         heads += struct.pack("<10I", start, kind, 6 if title == b".text" else 0, 0, at if place else 0, len(part), link, info, 1 if place else 0, size)
         content, at = content + part, at + len(part)
     head = b"\x7fELF" + bytes([BITS_32, LITTLE, 1]) + bytes(9)
-    head += struct.pack("<HHIIIIIHHHHHH", EXECUTABLE, MACHINE, 1, 0, 52, at, 0, 52, 32, 1, 40, len(titles), len(titles) - 1)
+    head += struct.pack("<HHIIIIIHHHHHH", EXECUTABLE, MACHINE, 1, 0, 52, at, Z80, 52, 32, 1, 40, len(titles), len(titles) - 1)
     head += struct.pack("<8I", 1, CODE_AT, 0, 0, ROM_SIZE, ROM_SIZE, 5, 1)
     return head + content + heads
 

@@ -1,5 +1,6 @@
 #!/usr/bin/env python3
-"""Tries hosts/gdb/server.py by packets, as gdb sends them, against the board's own calls, and hosts/gdb/symbols.py by readelf.
+"""Tries hosts/gdb/server.py by packets, as gdb sends them, against the board's own calls, and hosts/gdb/symbols.py by readelf; and both by gdb itself,
+where one is here that knows z80.
 
     hosts/gdb/try.py [LISTING]
 
@@ -7,7 +8,6 @@ It debugs hosts/out/starfall.roms, which hosts/build leaves. LISTING is starfall
 `N passed, M failed`, and the exit status is 0 where M is 0.
 """
 import ctypes
-import importlib.machinery
 import itertools
 import pathlib
 import random
@@ -18,22 +18,25 @@ import subprocess
 import sys
 import tempfile
 import time
-import types
 import xml.etree.ElementTree
 from typing import Any
 
 sys.dont_write_bytecode = True
 ROOT = pathlib.Path(__file__).resolve().parents[2]
-sys.path[:0] = [str(ROOT / "tools/lib"), str(ROOT / "hosts/python")]
+sys.path[:0] = [str(ROOT / "tools/lib"), str(ROOT / "hosts/python"), str(ROOT / "hosts/gdb")]
 
 import blocks
+import moments
 import pacboard
 import rows
+from server import command
 
 OUT, SERVER = ROOT / "hosts/out", ROOT / "hosts/gdb/server.py"
 STEPS, STOPS, BACK = 3000, 40, 200
 FEW_KEPT, VECTORS, HELD_AT = 8, 0x100, 3218  # kept moments, where starfall has the address of its interrupt, and where a block has what is held
 MACHINE_AT, I386, ASKED = 18, 3, 60  # where an ELF file has its processor, a processor that each gdb knows, and of how many lines it is asked
+KNOWING = ("z80-unknown-elf-gdb", "z80-elf-gdb", "gdb-multiarch", "gdb")  # commands of which one may know z80
+COPY, CALLED, COPIED = "0x117", "0x135", "0x4c32"  # starfall's LDIR to the sprites' places, a routine that it calls, and a byte that it copies
 PAIRS = "A F,B C,D E,H L,SP,PC,IX,IY,A' F',B' C',D' E',H' L',I R".split(",")  # gdb's registers, the high byte first
 NAMES = "af bc de hl sp pc ix iy af' bc' de' hl' ir".split()
 count = rows.Count("gdb", is_shown=True)
@@ -249,26 +252,22 @@ def try_watches(room: pathlib.Path) -> None:
 
 def try_kept() -> None:
     """Goes from one breakpoint to the next while inputs change and the board is reset, with few kept moments, and all the way back."""
-    loader = importlib.machinery.SourceFileLoader("server", str(SERVER))
-    server = types.ModuleType(loader.name)
-    server.__file__ = loader.path
-    loader.exec_module(server)
-    setattr(server, "MOST_KEPT", FEW_KEPT)
+    setattr(moments, "MOST_KEPT", FEW_KEPT)
     roms = (OUT / "starfall.roms").read_bytes()
-    board, seen, calls = server.Board(roms, pacboard.SWITCHES), list[tuple[bool, bytes]](), itertools.count()
+    board, seen, calls = moments.Board(roms, pacboard.SWITCHES), list[tuple[bool, bytes]](), itertools.count()
     handler = int.from_bytes(roms[VECTORS : VECTORS + 2], "little")
     commands = {5: "hold START1", 9: "hold -", 20: "hold P1_LEFT,COIN1", 33: "reset", 34: "hold P1_RIGHT", 60: "hold P1_UP"}
     board.places[handler] = 1
     for at in range(STOPS * 2):
-        is_met = board.go_on(lambda: next(calls) > 1000) == server.BREAK
-        told = board.command(commands.get(at, "frames 0").split())
+        is_met = board.go_on(lambda: next(calls) > 1000).why == pacboard.UNTIL_PLACE
+        told = command(board, commands.get(at, "frames 0").split())
         seen.append((is_met and told == "done\n", board.block))
     row(f"{len(seen)} stops, between which inputs change", all(is_so for is_so, _ in seen) and len({block[HELD_AT : HELD_AT + 2] for _, block in seen}) == 5)
     row("the kept moments", len(board.kept) <= FEW_KEPT + 2 * len(commands) and len(board.kept) > len(commands))
     stops = [block for _, block in seen if int.from_bytes(block[52:54], "little") == handler]
-    is_same = all(board.go_back() == server.BREAK and board.block == block for block in stops[-2::-1])
+    is_same = all(board.go_back().why == pacboard.UNTIL_PLACE and board.block == block for block in stops[-2::-1])
     row(f"{len(stops) - 1} of them back, each with what was held then", is_same and len(stops) > STOPS)
-    row("and the beginning", board.go_back() == server.BEGIN and board.time == 0)
+    row("and the beginning", board.go_back().why == moments.BEGIN and board.time == 0)
 
 
 def try_ends(room: pathlib.Path) -> None:
@@ -321,6 +320,42 @@ def try_symbols(room: pathlib.Path, listing: pathlib.Path) -> None:
     row("no listing", subprocess.run(words, capture_output=True, check=False).returncode == 3)
 
 
+def gdb_of_z80() -> str | None:
+    """A gdb that knows z80, if one is here."""
+    said = lambda name: subprocess.run([name, "-batch", "-nx", "-ex", "set architecture z80"], capture_output=True, text=True, check=False).stdout
+    return next((name for name in KNOWING if shutil.which(name) and "z80" in said(name)), None)
+
+
+def session(gdb: str, room: pathlib.Path, commands: list[str]) -> list[str]:
+    """What gdb itself prints at each command, over starfall with its symbols; nothing where it aborts."""
+    with Server(OUT / "starfall.roms") as server:
+        all_of_them = ["set pagination off", f"file {room / 'it.elf'}", f"directory {ROOT}", "mem 0 0 rw cache", f"target remote :{server.port}", *commands]
+        words = [word for command in all_of_them for word in ("-ex", "echo \\n@", "-ex", command)]
+        end = subprocess.run([gdb, "-batch", "-nx", *words], cwd=room, stdin=subprocess.DEVNULL, capture_output=True, text=True, check=False, timeout=120)
+    return end.stdout.split("\n@")[-len(commands) :] if end.returncode == 0 else []
+
+
+def try_itself(room: pathlib.Path, listing: pathlib.Path) -> None:
+    """Debugs by gdb itself, where one is here that knows z80."""
+    gdb, line = gdb_of_z80(), {at: number for number, at in lines_of(listing).items()}
+    if gdb is None:
+        print(f"LEFT OUT: gdb itself, since none of {', '.join(KNOWING)} is here and knows z80", file=sys.stderr, flush=True)
+        return
+    watch = [f"watch *(unsigned char *){COPIED}", "continue", "reverse-continue", "delete"]
+    found = session(gdb, room, [f"break *{COPY}", "continue", "p/x $pc", "x/i $pc", "list", "info registers", "delete", *watch, f"r{watch[0]}", "continue", f"p/x *(unsigned char *){COPIED}"])
+    row("gdb itself goes to a breakpoint", len(found) == 14 and f"starfall.asm:{line[int(COPY, 16)]}\n" in found[1] and found[2].endswith(f" = {COPY}\n"), str(found))
+    row("and shows its instruction and its line", "ldir" in found[3] and re.search(rf"^{line[int(COPY, 16)]}\s+LDIR", found[4], re.M), str(found[3:5]))
+    row("its registers", re.search(rf"^pc +{COPY} ", found[5], re.M), found[5])
+    values = [re.findall(r"value = (\d+) ", found[at]) for at in (8, 9)]
+    row("past a write, and back to before it", len(values[0]) == 2 and values[0] == values[1][::-1] and values[0][0] != values[0][1], str(found[8:10]))
+    row("past a read", re.search(r"^Value = \d+ ", found[12], re.M) and f"starfall.asm:{line[int(COPY, 16)]}\n" in found[12], found[12])
+    found = session(gdb, room, [f"break *{CALLED}", "continue", "stepi", "p/x $pc", "reverse-stepi", "p/x $pc", "backtrace 1"])
+    if not found:
+        print(f"LEFT OUT: single steps by {gdb}, which aborts at one", file=sys.stderr, flush=True)
+        return
+    row("a step, and back", found[3].endswith(f" = {int(CALLED, 16) + 3:#x}\n") and found[5].endswith(f" = {CALLED}\n"), str(found))
+
+
 def main(words: list[str]) -> int:
     """Tries the server and the symbols."""
     board = pacboard.Board((OUT / "starfall.roms").read_bytes())
@@ -337,6 +372,7 @@ def main(words: list[str]) -> int:
         try_kept()
         if words:
             try_symbols(room, pathlib.Path(words[0]))
+            try_itself(room, pathlib.Path(words[0]))
     return count.end(70)
 
 

@@ -1,28 +1,28 @@
 /* The proved board as a libretro core, for RetroArch and other frontends. hosts/libretro/build makes it.
  *
- * Content is a ROM block, a manifest or a source (hosts/c/content.h). The board is live, and after each frame its block is there for the frontend:
- * as its state, so rewind and run-ahead are the frontend's, and as memory, which cheats may change. Sound has 96,000 samples a second, which the
- * frontend resamples; a picture is XRGB8888. */
-#include "../c/content.h"
+ * Content is a ROM block, a manifest or a source (hosts/c/content.h). The board is live, and after each frame its block is there for the
+ * frontend: as its state, so rewind and run-ahead are the frontend's, and as memory, which cheats may change. Sound has 96,000 samples a
+ * second, which the frontend resamples; a picture is XRGB8888. */
 #include "../c/machine.h"
 
 #include <libretro.h>
 
-enum { BUTTONS = 9, PORTS = 2, SWITCHES = 5, TURN = SWITCHES };
+#pragma GCC diagnostic ignored "-Wunused-parameter" /* libretro hands over more than this core takes */
 
-static const struct button {
-    unsigned button;
-    uint16_t held[PORTS];
-} buttons[BUTTONS] = {
-    {RETRO_DEVICE_ID_JOYPAD_UP, {PAC_P1_UP, PAC_P2_UP}},         {RETRO_DEVICE_ID_JOYPAD_LEFT, {PAC_P1_LEFT, PAC_P2_LEFT}},
-    {RETRO_DEVICE_ID_JOYPAD_RIGHT, {PAC_P1_RIGHT, PAC_P2_RIGHT}}, {RETRO_DEVICE_ID_JOYPAD_DOWN, {PAC_P1_DOWN, PAC_P2_DOWN}},
-    {RETRO_DEVICE_ID_JOYPAD_SELECT, {PAC_COIN1, PAC_COIN2}},     {RETRO_DEVICE_ID_JOYPAD_START, {PAC_START1, PAC_START2}},
-    {RETRO_DEVICE_ID_JOYPAD_X, {PAC_CREDIT, 0}},                 {RETRO_DEVICE_ID_JOYPAD_L, {PAC_RACK_TEST, 0}},
-    {RETRO_DEVICE_ID_JOYPAD_R, {PAC_BOARD_TEST, PAC_COCKTAIL}},
+enum { PORTS = 2, BUTTONS = RETRO_DEVICE_ID_JOYPAD_R + 1, SWITCHES = 5, TURN = SWITCHES, PARTS = 4 };
+
+/* What the buttons of both joypads hold. */
+static const uint16_t buttons[PORTS][BUTTONS] = {
+    {[RETRO_DEVICE_ID_JOYPAD_UP] = PAC_P1_UP, [RETRO_DEVICE_ID_JOYPAD_LEFT] = PAC_P1_LEFT, [RETRO_DEVICE_ID_JOYPAD_RIGHT] = PAC_P1_RIGHT,
+     [RETRO_DEVICE_ID_JOYPAD_DOWN] = PAC_P1_DOWN, [RETRO_DEVICE_ID_JOYPAD_SELECT] = PAC_COIN1, [RETRO_DEVICE_ID_JOYPAD_START] = PAC_START1,
+     [RETRO_DEVICE_ID_JOYPAD_X] = PAC_CREDIT, [RETRO_DEVICE_ID_JOYPAD_L] = PAC_RACK_TEST, [RETRO_DEVICE_ID_JOYPAD_R] = PAC_BOARD_TEST},
+    {[RETRO_DEVICE_ID_JOYPAD_UP] = PAC_P2_UP, [RETRO_DEVICE_ID_JOYPAD_LEFT] = PAC_P2_LEFT, [RETRO_DEVICE_ID_JOYPAD_RIGHT] = PAC_P2_RIGHT,
+     [RETRO_DEVICE_ID_JOYPAD_DOWN] = PAC_P2_DOWN, [RETRO_DEVICE_ID_JOYPAD_SELECT] = PAC_COIN2, [RETRO_DEVICE_ID_JOYPAD_START] = PAC_START2,
+     [RETRO_DEVICE_ID_JOYPAD_R] = PAC_COCKTAIL},
 };
 
-/* The options: groups of the DIP switches by the words of bin/dip, from that of PAC_SWITCHES on in the order of their values, after the last of which
- * comes 0; and the quarter turns. */
+/* The options: groups of the DIP switches by the words of bin/dip, from that of PAC_SWITCHES on in the order of their values, after the last
+ * of which comes 0; and the quarter turns. */
 static const struct retro_variable options[] = {
     {"pacboard_coins", "Coins; 1C1C|1C2C|2C1C|FREE"}, {"pacboard_lives", "Lives; 3|5|1|2"},
     {"pacboard_bonus", "Bonus life; 10000|15000|20000|NONE"}, {"pacboard_difficulty", "Difficulty; NORMAL|HARD"},
@@ -32,7 +32,6 @@ static const uint8_t shifts[SWITCHES + 1] = {0, 2, 4, 6, 7, 8}; /* the groups' b
 
 static machine it;
 static pac_board seen; /* the board, as the frontend sees it */
-static uint8_t picture[PAC_RGBA_SIZE];
 static bool is_loaded, is_told;
 static retro_environment_t environment;
 static retro_video_refresh_t show;
@@ -40,42 +39,42 @@ static retro_audio_sample_batch_t play;
 static retro_input_poll_t poll_input;
 static retro_input_state_t input;
 
+/* Where the frontend's cheats find the board's memory. */
+static struct retro_memory_descriptor parts[PARTS] = {
+    {.flags = RETRO_MEMDESC_CONST, .ptr = it.roms, .start = 0, .len = PAC_SOURCE_ROM_SIZE, .addrspace = "ROM"},
+    {.ptr = seen.bytes + PAC_AT_TILE_RAM, .start = 0x4000, .len = PAC_TILE_RAM_SIZE, .addrspace = "TILES"},
+    {.ptr = seen.bytes + PAC_AT_COLOUR_RAM, .start = 0x4400, .len = PAC_COLOUR_RAM_SIZE, .addrspace = "COLOURS"},
+    {.flags = RETRO_MEMDESC_SYSTEM_RAM, .ptr = seen.bytes + PAC_AT_WORK_RAM, .start = 0x4C00, .len = PAC_WORK_RAM_SIZE, .addrspace = "RAM"},
+};
+
+static const struct retro_system_info about = {
+    .library_name = "pacboard", .library_version = "0.1", .valid_extensions = "roms|toml|asm", .need_fullpath = true,
+};
+static const struct retro_system_av_info shape = {
+    .geometry = {PAC_WIDTH, PAC_HEIGHT, PAC_WIDTH, PAC_HEIGHT, (float)PAC_WIDTH / PAC_HEIGHT},
+    .timing = {1e6 / PAC_FRAME_MICROSECONDS, PAC_SAMPLE_RATE},
+};
+
 RETRO_API unsigned retro_api_version(void) { return RETRO_API_VERSION; }
+RETRO_API unsigned retro_get_region(void) { return RETRO_REGION_NTSC; }
+RETRO_API void retro_get_system_info(struct retro_system_info *info) { *info = about; }
+RETRO_API void retro_get_system_av_info(struct retro_system_av_info *info) { *info = shape; }
 RETRO_API void retro_init(void) {}
 RETRO_API void retro_deinit(void) { machine_close(&it); }
+RETRO_API void retro_set_environment(retro_environment_t call) { (environment = call)(RETRO_ENVIRONMENT_SET_VARIABLES, (void *)options); }
 RETRO_API void retro_set_video_refresh(retro_video_refresh_t call) { show = call; }
-RETRO_API void retro_set_audio_sample(retro_audio_sample_t call) { (void)call; }
+RETRO_API void retro_set_audio_sample(retro_audio_sample_t call) {}
 RETRO_API void retro_set_audio_sample_batch(retro_audio_sample_batch_t call) { play = call; }
 RETRO_API void retro_set_input_poll(retro_input_poll_t call) { poll_input = call; }
 RETRO_API void retro_set_input_state(retro_input_state_t call) { input = call; }
-RETRO_API void retro_set_controller_port_device(unsigned port, unsigned device) { (void)port, (void)device; }
-RETRO_API unsigned retro_get_region(void) { return RETRO_REGION_NTSC; }
+RETRO_API void retro_set_controller_port_device(unsigned port, unsigned device) {}
 RETRO_API void retro_cheat_reset(void) {}
-RETRO_API void retro_cheat_set(unsigned index, bool is_on, const char *code) { (void)index, (void)is_on, (void)code; }
-RETRO_API bool retro_load_game_special(unsigned type, const struct retro_game_info *games, size_t count) { return (void)type, (void)games, (void)count, false; }
+RETRO_API void retro_cheat_set(unsigned index, bool is_on, const char *code) {}
+RETRO_API bool retro_load_game_special(unsigned type, const struct retro_game_info *games, size_t count) { return false; }
 RETRO_API void retro_unload_game(void) { is_loaded = false; }
 RETRO_API size_t retro_serialize_size(void) { return PAC_BOARD_SIZE; }
 RETRO_API void *retro_get_memory_data(unsigned kind) { return kind == RETRO_MEMORY_SYSTEM_RAM ? seen.bytes + PAC_AT_WORK_RAM : NULL; }
 RETRO_API size_t retro_get_memory_size(unsigned kind) { return kind == RETRO_MEMORY_SYSTEM_RAM ? PAC_WORK_RAM_SIZE : 0; }
-
-RETRO_API void retro_set_environment(retro_environment_t call)
-{
-    environment = call;
-    call(RETRO_ENVIRONMENT_SET_VARIABLES, (void *)options);
-}
-
-RETRO_API void retro_get_system_info(struct retro_system_info *info)
-{
-    *info = (struct retro_system_info){.library_name = "pacboard", .library_version = "0.1", .valid_extensions = "roms|toml|asm", .need_fullpath = true};
-}
-
-RETRO_API void retro_get_system_av_info(struct retro_system_av_info *info)
-{
-    *info = (struct retro_system_av_info){
-        .geometry = {PAC_WIDTH, PAC_HEIGHT, PAC_WIDTH, PAC_HEIGHT, (float)PAC_WIDTH / PAC_HEIGHT},
-        .timing = {1e6 / PAC_FRAME_MICROSECONDS, PAC_SAMPLE_RATE},
-    };
-}
 
 /* Shows a line of text, if the frontend does. */
 static void tell(const char *text)
@@ -98,65 +97,52 @@ static unsigned option(int at)
     return 0;
 }
 
-/* Puts a board at power-on, with the DIP switches as the options are now. */
-static bool begin(const uint8_t *roms)
+/* The byte of the DIP switches, as the options are now. */
+static uint8_t switches(void)
 {
-    unsigned switches = 0;
+    unsigned found = 0;
     for (int at = 0; at < SWITCHES; at++)
-        switches |= ((((unsigned)PAC_SWITCHES >> shifts[at]) + option(at)) & ((1u << (shifts[at + 1] - shifts[at])) - 1)) << shifts[at];
-    is_told = false;
-    return machine_open(&it, roms, (uint8_t)switches) == PAC_DONE && pac_live_give(&it.live, &seen) == PAC_DONE;
-}
-
-/* Says where the frontend's cheats find the board's memory. */
-static void map_memory(void)
-{
-    struct retro_memory_descriptor parts[] = {
-        {.flags = RETRO_MEMDESC_CONST, .ptr = it.roms, .start = 0, .len = PAC_SOURCE_ROM_SIZE, .addrspace = "ROM"},
-        {.ptr = seen.bytes + PAC_AT_TILE_RAM, .start = 0x4000, .len = PAC_TILE_RAM_SIZE, .addrspace = "TILES"},
-        {.ptr = seen.bytes + PAC_AT_COLOUR_RAM, .start = 0x4400, .len = PAC_COLOUR_RAM_SIZE, .addrspace = "COLOURS"},
-        {.flags = RETRO_MEMDESC_SYSTEM_RAM, .ptr = seen.bytes + PAC_AT_WORK_RAM, .start = 0x4C00, .len = PAC_WORK_RAM_SIZE, .addrspace = "RAM"},
-    };
-    struct retro_memory_map map = {parts, sizeof parts / sizeof parts[0]};
-    environment(RETRO_ENVIRONMENT_SET_MEMORY_MAPS, &map);
+        found |= (((unsigned)PAC_SWITCHES >> shifts[at]) + option(at)) % (1u << (shifts[at + 1] - shifts[at])) << shifts[at];
+    return (uint8_t)found;
 }
 
 RETRO_API bool retro_load_game(const struct retro_game_info *game)
 {
-    static uint8_t roms[PAC_ROMS_SIZE];
     enum retro_pixel_format format = RETRO_PIXEL_FORMAT_XRGB8888;
-    const char *wrong = !pac_matches() ? "the core's header is another library's" : game == NULL || game->path == NULL ? "no content" : content_read(game->path, roms);
-    if (wrong == NULL && !environment(RETRO_ENVIRONMENT_SET_PIXEL_FORMAT, &format))
-        wrong = "the frontend shows no XRGB8888";
-    if (wrong == NULL && !begin(roms))
-        wrong = "the board isn't made";
+    struct retro_memory_map map = {parts, PARTS};
+    unsigned turns = option(TURN);
+    const char *wrong = !environment(RETRO_ENVIRONMENT_SET_PIXEL_FORMAT, &format) ? "the frontend shows no XRGB8888"
+        : game == NULL || game->path == NULL ? "no content" : machine_load(&it, game->path, switches());
     if (wrong != NULL)
         return tell(wrong), false;
-    unsigned turns = option(TURN);
-    environment(RETRO_ENVIRONMENT_SET_ROTATION, &turns);
-    map_memory();
-    return is_loaded = true;
+    environment(RETRO_ENVIRONMENT_SET_ROTATION, &turns), environment(RETRO_ENVIRONMENT_SET_MEMORY_MAPS, &map);
+    is_told = false;
+    return is_loaded = pac_live_give(&it.live, &seen) == PAC_DONE;
 }
 
-RETRO_API void retro_reset(void) { begin(it.roms); }
+RETRO_API void retro_reset(void)
+{
+    machine_open(&it, it.roms, switches()), pac_live_give(&it.live, &seen), is_told = false;
+}
 
 /* What is held on both joypads. */
 static uint16_t held(void)
 {
     unsigned mask = 0;
-    for (unsigned at = 0; at < BUTTONS * PORTS; at++)
-        if (input(at % PORTS, RETRO_DEVICE_JOYPAD, 0, buttons[at / PORTS].button))
-            mask |= buttons[at / PORTS].held[at % PORTS];
+    for (unsigned at = 0; at < PORTS * BUTTONS; at++)
+        mask |= input(at / BUTTONS, RETRO_DEVICE_JOYPAD, 0, at % BUTTONS) ? buttons[at / BUTTONS][at % BUTTONS] : 0u;
     return (uint16_t)mask;
 }
 
 /* A frame, of the board as cheats have left it: its sound in both ears, silence after a stop, and its picture. */
 RETRO_API void retro_run(void)
 {
+    static uint8_t picture[PAC_RGBA_SIZE];
     int16_t samples[MACHINE_ROOM] = {0}, both[2 * MACHINE_ROOM];
     pac_ran ran = {0};
     poll_input();
-    if (machine_put(&it, &seen) != PAC_DONE || pac_live_hold(&it.live, held(), 0xFFFF) != PAC_DONE
+    uint16_t mask = held(); /* RetroArch may load a state or write to memory meanwhile */
+    if (machine_put(&it, &seen) != PAC_DONE || pac_live_hold(&it.live, mask, 0xFFFF) != PAC_DONE
         || pac_live_exec(&it.live, PAC_FRAME_MICROSECONDS, samples, MACHINE_ROOM, &ran) != PAC_DONE)
         tell("the board refuses the frame");
     if (ran.stop != PAC_GOES && !is_told)
@@ -173,9 +159,7 @@ RETRO_API void retro_run(void)
 
 RETRO_API bool retro_serialize(void *bytes, size_t size)
 {
-    if (!is_loaded || size < PAC_BOARD_SIZE)
-        return false;
-    return memcpy(bytes, seen.bytes, PAC_BOARD_SIZE), true;
+    return is_loaded && size >= PAC_BOARD_SIZE && memcpy(bytes, seen.bytes, PAC_BOARD_SIZE) == bytes;
 }
 
 RETRO_API bool retro_unserialize(const void *bytes, size_t size)

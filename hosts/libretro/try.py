@@ -12,6 +12,7 @@ import pathlib
 import re
 import sys
 import tempfile
+from collections.abc import Callable
 from typing import Any
 
 sys.dont_write_bytecode = True
@@ -86,6 +87,7 @@ class Frontend:
         self.declared: dict[str, list[str]] = {}
         self.parts: dict[int, tuple[int, int, int]] = {}
         self.turns, self.format, self.held, self.picture, self.sound = -1, -1, 0, b"", b""
+        self.late: Callable[[], object] | None = None  # what is done as soon as the core asks for a button
         size, pointer, number = ctypes.c_size_t, ctypes.c_void_p, ctypes.c_uint
         self.calls = {
             "environment": ctypes.CFUNCTYPE(ctypes.c_bool, number, pointer)(self.environment),
@@ -143,6 +145,9 @@ class Frontend:
 
     def input(self, port: int, device: int, index: int, button: int) -> int:
         """Whether a button is held."""
+        if self.late:
+            late, self.late = self.late, None
+            late()
         name = JOYPAD.get(button, ("", ""))[port] if device == 1 and index == 0 and port < 2 else ""
         return int(bool(name) and bool(self.held & pacboard.INPUTS[name]))
 
@@ -230,6 +235,15 @@ def try_memory(front: Frontend) -> None:
         board.block = block
         is_same = is_same and front.frame(0) == wanted_of(board, 0) and front.state() == board.block
     row(f"{CHEATS} frames, each with three bytes that a cheat sets", is_same and front.state() != kept)
+    cell = ctypes.c_uint8.from_address(front.parts[0x4000][0] + 5)
+    front.late = lambda: setattr(cell, "value", cell.value ^ 0xFF)
+    block = bytearray(board.block)
+    block[82 + 5] ^= 0xFF
+    board.block = block
+    row("a byte that is set while the core asks for the buttons, as RetroArch may", front.frame(0) == wanted_of(board, 0) and front.state() == board.block)
+    front.late = lambda: front.back(kept)
+    board.block = kept
+    row("and a state that is loaded then", front.frame(0) == wanted_of(board, 0) and front.state() == board.block)
     row("and back again", front.back(kept))
 
 

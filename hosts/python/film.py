@@ -18,16 +18,6 @@ except OSError as error:
     print(f"film.py: {error}", file=sys.stderr)
     sys.exit(3)
 
-HEAD = b"P6\n%d %d\n255\n" % (pacboard.WIDTH, pacboard.HEIGHT)
-
-
-def picture(rgba: bytes) -> bytes:
-    """A PPM image of a picture, without its fourth bytes."""
-    rgb = bytearray(len(rgba) // 4 * 3)
-    for colour in range(3):
-        rgb[colour::3] = rgba[colour::4]
-    return HEAD + rgb
-
 
 def wave_head(samples: int) -> bytes:
     """The head of a sound of so many samples."""
@@ -54,7 +44,7 @@ def main(words: list[str]) -> int:
                 ran, samples = board.run(pacboard.FRAME_MICROSECONDS)
             wave.write(samples.tobytes().ljust(2 * pacboard.FRAME_SAMPLES, b"\0"))  # silence after a stop
             if ran.pictures:
-                frames.write(picture(board.draw()))
+                frames.write(board.ppm())
     if ran.stop:
         print(f"film.py: the board stopped at {ran.pc:04X}", file=sys.stderr)
         return 5

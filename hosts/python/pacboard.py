@@ -374,6 +374,13 @@ class Calls:
         """Draws the picture into a buffer of 258,048 bytes, as an array of numpy is."""
         self.call("draw", *picture_in(rgba))
 
+    def ppm(self) -> bytes:
+        """The picture as it stands as a PPM image, as `pacboard run` writes them."""
+        rgba, rgb = self.draw(), bytearray(RGBA_SIZE // 4 * 3)
+        for colour in range(3):
+            rgb[colour::3] = rgba[colour::4]
+        return b"P6\n%d %d\n255\n" % (WIDTH, HEIGHT) + rgb
+
     def image(self) -> NDArray[uint8]:
         """The picture as it stands as an array of numpy: 224 rows of 288 pixels, each red, green, blue and 255."""
         import numpy  # type: ignore[import,unused-ignore]  # (only who asks for it needs it)  # pylint: disable=import-outside-toplevel

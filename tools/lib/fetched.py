@@ -32,14 +32,20 @@ def is_here(package: str) -> bool:
     return any(pathlib.Path(name).exists() or shutil.which(name) for name in (FETCHED | LATER)[package])
 
 
+def apt_get(*words: str) -> bool:
+    """Has apt-get do something, once no other process does anything: whether it's done."""
+    line = ["apt-get", "-o", f"DPkg::Lock::Timeout={LONGEST}", *words]
+    try:
+        return not subprocess.run(line, stdout=subprocess.DEVNULL, stderr=subprocess.DEVNULL, check=False, timeout=LONGEST).returncode
+    except subprocess.TimeoutExpired:
+        return False
+
+
 def fetch(packages: list[str]) -> None:
-    """Fetches packages, once no other process does."""
-    words = ["apt-get", "install", "-y", "--no-install-recommends", "-o", f"DPkg::Lock::Timeout={LONGEST}", *packages]
-    if packages and os.geteuid() == 0 and shutil.which("apt-get"):
-        try:
-            subprocess.run(words, stdout=subprocess.DEVNULL, stderr=subprocess.DEVNULL, check=False, timeout=LONGEST)
-        except subprocess.TimeoutExpired:
-            pass
+    """Fetches packages. A new machine has no list of them yet: that is fetched where they aren't known."""
+    words = ["install", "-y", "--no-install-recommends", *packages]
+    if packages and os.geteuid() == 0 and shutil.which("apt-get") and not apt_get(*words) and apt_get("update"):
+        apt_get(*words)
 
 
 def has(package: str) -> bool:

@@ -1,14 +1,13 @@
 -- A call for some time, put together from what its parts say.
-use Rattle.std.proofs.Common.{◌≡◌, ◌≤◌, ◌<◌, ◌+◌, ◌-◌, ◌^◌, min, ℕ, ℤ, List, ◌++◌, length, drop, Ok, Err, ap, subst, ◌∙◌}
+use Rattle.std.proofs.Common.{◌≡◌, ◌≤◌, ◌<◌, ◌+◌, ◌-◌, ◌^◌, min, ℕ, ℤ, List, ◌++◌, length, drop, Ok, Err, subst, rules}
 use Rattle.pac_board.specs.RomParts.{Parts}
-use Rattle.pac_board.specs.Calls.{course, outputs_given}
-use Rattle.pac_board.specs.Calls.{run_ticks}
+use Rattle.pac_board.specs.Calls.{course, outputs_given, run_ticks}
 use Rattle.pac_board.specs.Output.{sound_count, picture_count}
 use Rattle.pac_board.specs.State.{BoardState, BoardValue, most_asked}
 use Rattle.pac_state.specs.Block.{IsBlock}
 use Rattle.pac_state.specs.Reading.{state_in}
 use Rattle.pac_block.specs.declared.codes.HostFault.{HostFault}
-use Rattle.pac_block.specs.declared.codes.HostFault.TheVariants.{WrongLength, NoBoard, TooLong, NoRoom, NoFile, Closed}
+use Rattle.pac_block.specs.declared.codes.HostFault.TheVariants.{TooLong, NoRoom}
 use Rattle.pac_block.specs.declared.ran.PacRan.{PacRan}
 use Rattle.pac_block.specs.Codes.{ran_of}
 use Rattle.pac_block.specs.Handed.{MayRun}
@@ -33,10 +32,7 @@ pub executed : (roms block : List ℕ) (microseconds : ℕ) (samples : List ℤ)
     (picture_count (outputs_given machine microseconds)) (course machine microseconds).stop
     → HasExecuted roms block microseconds samples new after ran
 executed roms block microseconds samples set state machine new after ran roms_are is_block same may machine_is kept samples_are ran_is =
-    let board : machine ≡ board_in roms block =
-    machine_is
-    ∙ ap (λ set. record { set = set; state = state; made = 0 }) roms_are.1
-    ∙ ap (λ state. record { set = set_of_roms roms; state = state; made = 0 }) same in
+    let board : machine ≡ board_in roms block = search rules in
     let left = subst (Leaves microseconds samples new after ran) board
     (record { block = kept; samples_are = samples_are; ran_is = ran_is }) in
     record {
@@ -61,7 +57,4 @@ may-not-run NoRoom roms block microseconds samples state roms_are is_block same 
   subst (λ (state : BoardState). state.asked + microseconds ≤ most_asked) same not.0,
   subst (λ state. min (length samples) (2 ^ 32 - 1) < most_samples state microseconds) same not.1,
 )
-may-not-run WrongLength roms block microseconds samples state roms_are is_block same not = absurd not
-may-not-run NoBoard roms block microseconds samples state roms_are is_block same not = absurd not
-may-not-run (NoFile fault) roms block microseconds samples state roms_are is_block same not = absurd not
-may-not-run Closed roms block microseconds samples state roms_are is_block same not = absurd not
+may-not-run fault roms block microseconds samples state roms_are is_block same not = absurd not

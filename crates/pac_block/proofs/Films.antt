@@ -1,34 +1,28 @@
 -- A host that plays a script frame by frame hears and sees the script's trace.
-use Rattle.std.proofs.Common.{◌≡◌, ◌≤◌, ◌<◌, ℕ, ℤ, zero, suc, ◌+◌, ◌*◌, ◌/◌, List, [], ◌∷◌, ◌++◌}
-use Rattle.std.proofs.Common.{map, length, take, drop}
-use Rattle.std.proofs.Common.{Option, None, Some, Result, Ok, Err, refl, sym, ap, subst, ◌∙◌, append_assoc, append-nil, arith}
+use Rattle.std.proofs.Common.{◌≡◌, ◌≤◌, ◌<◌, ℕ, ℤ, zero, suc, ◌+◌, ◌*◌, List, [], ◌∷◌, ◌++◌, rules, map, length, drop, Option, None, Some}
+use Rattle.std.proofs.Common.{Result, Ok, refl, sym, ap, subst, ◌∙◌, append_assoc, arith}
 use Rattle.std.proofs.lemmas.List.{length-drop, length-take-le}
 use Rattle.std.specs.Int.Bits.{bit_or, and_zero_r, or_zero_l}
 use Rattle.pac_board.specs.BoardView.{BoardView, board_after, power_on_board_view}
 use Rattle.pac_board.specs.Calls.{course}
-use Rattle.pac_board.specs.Cause.{Cause}
-use Rattle.pac_board.specs.CauseVariants.{Opcode, Vector}
 use Rattle.pac_board.specs.Entry.{Hold}
 use Rattle.pac_board.specs.MemoryView.{held_with, held_without}
 use Rattle.pac_board.specs.ModelLaws.{next_frame}
 use Rattle.pac_board.specs.Output.{Image, image_of, picture_count}
 use Rattle.pac_board.specs.RomParts.{Parts, IsWhole, program_size, tiles_size, sprites_size}
 use Rattle.pac_board.specs.RomParts.{colour_prom_size, lookup_prom_size, wave_prom_size}
-use Rattle.pac_board.specs.State.{BoardState, nothing_due, time_of}
+use Rattle.pac_board.specs.State.{BoardState, nothing_due}
 use Rattle.pac_board.specs.Step.{Moment, step, frame_ticks}
 use Rattle.pac_board.specs.Stop.{Stop}
-use Rattle.pac_board.specs.Trace.{by_view, moment_with_inputs, play_step, power_on_moment, trace, frame_steps}
+use Rattle.pac_board.specs.Trace.{by_view, moment_with_inputs, power_on_moment, trace, frame_steps}
 use Rattle.pac_board.specs.Walk.{Walk, walk_to}
 use Rattle.pac_board_model.proofs.Agreed.{runs-agree}
 use Rattle.pac_board_model.proofs.Runs.{runs-end, runs-go-by-frames, walk-near}
 use Rattle.pac_board_model.proofs.Walks.{open-is-late, play-timely, step-timely, walk-to-ends, stopped-is-early}
 use Rattle.pac_state.specs.Reading.{bytes_at_place, state_in}
-use Rattle.pac_state.specs.declared.fault.LoadFault.{LoadFault}
-use Rattle.pac_state.specs.declared.fault.LoadFault.TheVariants.{NoState, OtherVersion, Size, OutOfRange, Damaged, OtherSet, NoMemory}
 use Rattle.pac_block.specs.declared.codes.HostFault.{HostFault}
-use Rattle.pac_block.specs.declared.codes.HostFault.TheVariants.{WrongLength, NoBoard, TooLong, NoRoom, NoFile, Closed}
 use Rattle.pac_block.specs.declared.ran.PacRan.{PacRan}
-use Rattle.pac_block.specs.Codes.{Answers, code_of, file_code, cause_number}
+use Rattle.pac_block.specs.Codes.{Answers, code_of}
 use Rattle.pac_block.specs.Films.{HostsPlayTheFilm, ran_read}
 use Rattle.pac_block.specs.Films.{Player, IsHostFrame, FollowedBy, PlaysFrames, heard, seen, seen_if, pictures_given, rgba_of_image}
 use Rattle.pac_block.specs.Host.{roms_size, set_of_roms, asked_left, board_holding, board_after_exec, samples_given, HasBecome, TellsRun}
@@ -41,22 +35,7 @@ use Rattle.pac_block.proofs.TimeParts.{Tells, tells, kept, told_stop}
 
 done-of : (comes_to : Result (Unit {0}) HostFault → Type 0) (answer : Result (Unit {0}) HostFault) → 0 ≡ code_of answer → comes_to answer
     → comes_to (Ok tt)
-done-of comes_to (Ok done) code done_is = done_is
-done-of comes_to (Err WrongLength) code done_is = absurd (cc)
-done-of comes_to (Err NoBoard) code done_is = absurd (cc)
-done-of comes_to (Err TooLong) code done_is = absurd (cc)
-done-of comes_to (Err NoRoom) code done_is = absurd (cc)
-done-of comes_to (Err Closed) code done_is = absurd (cc)
-done-of comes_to (Err (NoFile fault)) code done_is = absurd (choose fault code)
-  where
-    choose : (fault : LoadFault) → 0 ≡ file_code fault → ⊥
-    choose NoState e = cc
-    choose OtherVersion e = cc
-    choose Size e = cc
-    choose OutOfRange e = cc
-    choose Damaged e = cc
-    choose OtherSet e = cc
-    choose NoMemory e = cc
+done-of comes_to answer code done_is = search rules
 
 pub was-done : (comes_to : Result (Unit {0}) HostFault → Type 0) → Answers comes_to 0 → comes_to (Ok tt)
 was-done comes_to answers = done-of comes_to answers.answer answers.code_is answers.done
@@ -110,9 +89,7 @@ module _ (set : Parts) (switches : ℕ) (held : ℕ → ℕ) where
       (runs-end (by_view set) (record { frames = frames; held = held }) (power_on_board_view switches) 0).0 open_yet
 
   run-near : (frames : ℕ) → (run frames).now.time < frame_ticks * frames + 23
-  run-near frames =
-      walk-near (play_step (by_view set) held) (frame_ticks * frames) (play-timely (by_view set) held)
-      (power_on_moment (board_after set (power_on_board_view switches) (Hold (held 1)))) (frame_steps * frames) (omega arith)
+  run-near frames = walk-near _ _ (play-timely (by_view set) held) _ (frame_steps * frames) (omega arith)
 
   played-late : (frames : ℕ) → (played frames).stop ≡ None → frame_ticks * suc frames ≤ (played frames).now.time
   played-late frames goes =
@@ -121,9 +98,8 @@ module _ (set : Parts) (switches : ℕ) (held : ℕ → ℕ) where
 
   played-near : (frames : ℕ) → (played frames).now.time < frame_ticks * suc frames + 23
   played-near frames =
-      let near = run-near frames in
       walk-near (step (by_view set)) (frame_ticks * suc frames) (step-timely (by_view set)) (run frames).now (frame_ticks * suc frames)
-      (omega (arith, near))
+      (omega (arith, run-near frames))
 
   -- the pictures of a frame
   picture-shown : (frames : ℕ) → (run frames).stop ≡ None → (played frames).stop ≡ None
@@ -162,17 +138,7 @@ module _ (set : Parts) (switches : ℕ) (held : ℕ → ℕ) where
   after_frame frames = record { now = (played frames).now; asked = 16500 * frames + 16500; due = nothing_due }
 
   next-between : (frames : ℕ) → (run frames).stop ≡ None → (played frames).stop ≡ None → IsBetween (suc frames) (after_frame frames)
-  next-between frames open_yet goes =
-      let whole = run-open frames open_yet goes in
-      let late = played-late frames goes in
-      let near = played-near frames in
-      let number : suc (suc frames) ≡ (played frames).now.time / frame_ticks + 1 = omega (arith, late, near) in
-      record {
-        open_yet = ap (λ (w : Walk BoardView). w.stop) whole;
-        now = ap (λ frame. with_held frame (played frames).now) number ∙ sym (ap (λ (w : Walk BoardView). w.now) whole);
-        asked = omega arith;
-        due = refl;
-      }
+  next-between frames open_yet goes = grind (arith, played-late, played-near, run-open)
 
   -- the first frame's state
   first-between : IsBetween 0 (record { now = power_on_moment (power_on_board_view switches); asked = 0; due = nothing_due })
@@ -180,9 +146,7 @@ module _ (set : Parts) (switches : ℕ) (held : ℕ → ℕ) where
 
   -- a call for a frame is the frame's walk
   course-is : (frames : ℕ) → course (record { set = set; state = ready frames; made = 0 }) 16500 ≡ played frames
-  course-is frames =
-      let limit : time_of (16500 * frames + 16500) ≡ frame_ticks * suc frames = omega arith in
-      ap (λ limit. walk_to (step (by_view set)) limit (run frames).now) limit
+  course-is frames = search rules
 
 -- ---- one frame of a host
 
@@ -231,7 +195,6 @@ module _ (roms : List ℕ) (switches : ℕ) (held : ℕ → ℕ) where
   frame-of : (frames : ℕ) (old new : Player) → IsBetween set switches held frames (state_in old.block)
       → IsHostFrame roms (held (suc frames)) old new → IsFrameOf frames new
   frame-of frames old new stands done =
-      let becomes = was-done _ done.hold in
       let tells_run : TellsRun roms done.between 16500 old.samples new.block new.samples new.told = was-done _ done.exec in
       let ran = tells_run.ran in
       let executes = tells_run.executed in
@@ -239,7 +202,7 @@ module _ (roms : List ℕ) (switches : ℕ) (held : ℕ → ℕ) where
       let told_is = tells_run.told_is in
       let draws = was-done _ done.draw in
       let begun : state_in done.between ≡ ready set switches held frames =
-      held-state (suc frames) old.block done.between becomes
+      held-state (suc frames) old.block done.between (was-done _ done.hold)
       ∙ (λ i. record { now = stands.now i; asked = stands.asked i; due = stands.due i }) in
       let called = subst (IsCalled roms new ran) begun
       (record {
@@ -255,22 +218,14 @@ module _ (roms : List ℕ) (switches : ℕ) (held : ℕ → ℕ) where
         due = nothing_due;
       }) same in
       record {
-        sound =
-            ap (λ told. take (ran_read told).samples new.samples) told_is
-            ∙ ap (λ count. take count new.samples) read.samples
-            ∙ called.told.taken
-            ∙ ap (λ (walked : Walk BoardView). samples_given walked.outputs) same;
-        pictures =
-            ap (λ told. (ran_read told).pictures) told_is ∙ read.pictures ∙ called.told.pictures
-            ∙ ap (λ (walked : Walk BoardView). picture_count walked.outputs) same;
+        sound = cc (told_is, read.samples, called.told.taken, same);
+        pictures = cc (told_is, read.pictures, called.told.pictures, same);
         stop =
             ap (λ told. (ran_read told).stop) told_is ∙ read.stop
             ∙ ap (λ (ran : PacRan). ran.stop) called.told.stop
             ∙ ap (λ (walked : Walk BoardView). (told_stop walked.stop).stop) same;
         state_is = λ goes. after ∙ ap (left_after frames) goes;
-        drawn =
-            draws.drawn
-            ∙ ap (λ (state : BoardState). rgba_of_image (image_of set state.now.board.lines)) after;
+        drawn = cc (draws.drawn, after);
       }
 
   -- the pictures that a host sees of the frame
@@ -283,10 +238,7 @@ module _ (roms : List ℕ) (switches : ℕ) (held : ℕ → ℕ) where
   seen-open frames new is open_yet goes =
       let walked = played set switches held frames in
       let shown = picture-shown set switches held frames open_yet goes in
-      let count : picture_count walked.outputs ≡ 1 = sym (as-many-pictures walked.outputs) ∙ ap length shown in
-      ap (λ n. seen_if n new.rgba) (is.pictures ∙ count)
-      ∙ ap (λ rgba. rgba ∷ []) is.drawn
-      ∙ ap drawn_of (sym shown)
+      let count : picture_count walked.outputs ≡ 1 = sym (as-many-pictures walked.outputs) ∙ ap length shown in search rules
 
   seen-closed : (frames : ℕ) (stop : Stop) (new : Player) → IsFrameOf frames new → (run set switches held frames).stop ≡ None
       → (played set switches held frames).stop ≡ Some stop
@@ -313,18 +265,7 @@ module _ (roms : List ℕ) (switches : ℕ) (held : ℕ → ℕ) where
   -- nothing follows
   nothing-more : (frames last : ℕ) (sound : List ℤ) (pictures : List (List ℕ)) → run set switches held last ≡ run set switches held frames
       → (sound ≡ []) × (pictures ≡ []) → IsRun frames last sound pictures
-  nothing-more frames last sound pictures same none =
-      let outputs = (run set switches held frames).outputs in
-      record {
-        sound_is =
-            ap (λ sound. samples_given outputs ++ sound) none.0
-            ∙ append-nil (samples_given outputs)
-            ∙ sym (ap (λ (w : Walk BoardView). samples_given w.outputs) same);
-        pictures_are =
-            ap (λ pictures. drawn_of (pictures_given outputs) ++ pictures) none.1
-            ∙ append-nil (drawn_of (pictures_given outputs))
-            ∙ sym (ap (λ (w : Walk BoardView). drawn_of (pictures_given w.outputs)) same);
-      }
+  nothing-more frames last sound pictures same none = search rules
 
   -- a frame, and what follows
   frame-first : (frames last : ℕ) (new : Player) (more : List ℤ) (others : List (List ℕ)) → IsFrameOf frames new
@@ -345,9 +286,7 @@ module _ (roms : List ℕ) (switches : ℕ) (held : ℕ → ℕ) where
             ap (λ drawn. drawn_of (pictures_given before) ++ (drawn ++ others)) pictures
             ∙ sym (append_assoc (drawn_of (pictures_given before)) (drawn_of (pictures_given now)) others)
             ∙ ap (λ drawn. drawn ++ others)
-            (sym (map-joined (pictures_given before) (pictures_given now))
-            ∙ ap drawn_of (sym (pictures-joined before now))
-            ∙ ap (λ outputs. drawn_of (pictures_given outputs)) (sym whole))
+            (grind (arith, map-joined, pictures-joined))
             ∙ rest.pictures_are;
       }
 
@@ -358,11 +297,7 @@ module _ (roms : List ℕ) (switches : ℕ) (held : ℕ → ℕ) where
 
   stopped-alone : (stop : Stop) (others : List ℤ → List (List ℕ) → Type 0) (sound : List ℤ) (pictures : List (List ℕ))
       → FollowedBy (told_stop (Some stop)).stop others sound pictures → (sound ≡ []) × (pictures ≡ [])
-  stopped-alone stop others sound pictures after = choose stop.cause after
-    where
-      choose : (cause : Cause) → FollowedBy (cause_number cause) others sound pictures → (sound ≡ []) × (pictures ≡ [])
-      choose Opcode after = after
-      choose (Vector byte) after = after
+  stopped-alone stop others sound pictures after = search rules
 
   frames-are-run : (left frames : ℕ) (old : Player) (sound : List ℤ) (pictures : List (List ℕ))
       → IsBetween set switches held frames (state_in old.block)
@@ -381,8 +316,7 @@ module _ (roms : List ℕ) (switches : ℕ) (held : ℕ → ℕ) where
           → IsRun (suc frames) (suc frames + left) plays.more plays.others_seen)
           → (stop : Option Stop) → (played set switches held frames).stop ≡ stop
           → IsRun frames (frames + suc left) (heard plays.new ++ plays.more) (seen plays.new ++ plays.others_seen)
-      choose on None goes =
-          let is = frame-of frames old plays.new stands plays.frame in
+      choose on None goes = let is = frame-of _ _ _ stands plays.frame in
           let whole = run-open set switches held frames stands.open_yet goes in
           let told : (ran_read plays.new.told).stop ≡ 0 = is.stop ∙ ap (λ stop. (told_stop stop).stop) goes in
           let next = subst (IsBetween set switches held (suc frames)) (sym (is.state_is goes))
@@ -391,12 +325,9 @@ module _ (roms : List ℕ) (switches : ℕ) (held : ℕ → ℕ) where
           let rest = on next
           (subst (λ told. FollowedBy told (λ sound pictures. PlaysFrames roms held (suc (suc frames)) left plays.new sound pictures)
           plays.more plays.others_seen) told plays.after) in
-          frame-first frames (frames + suc left) plays.new plays.more plays.others_seen is
-          (ap (λ (w : Walk BoardView). w.outputs) whole)
-          (seen-open frames plays.new is stands.open_yet goes)
+          frame-first _ _ _ _ _ is (ap (λ (w : Walk BoardView). w.outputs) whole) (seen-open frames plays.new is stands.open_yet goes)
           (subst (λ last. IsRun (suc frames) last plays.more plays.others_seen) number rest)
-      choose on (Some stop) ends =
-          let is = frame-of frames old plays.new stands plays.frame in
+      choose on (Some stop) ends = let is = frame-of _ _ _ stands plays.frame in
           let whole = run-closed set switches held frames stop stands.open_yet ends in
           let told : (ran_read plays.new.told).stop ≡ (told_stop (Some stop)).stop = is.stop ∙ ap (λ stop. (told_stop stop).stop) ends in
           let none = stopped-alone stop _ plays.more plays.others_seen
@@ -404,10 +335,8 @@ module _ (roms : List ℕ) (switches : ℕ) (held : ℕ → ℕ) where
           plays.more plays.others_seen) told plays.after) in
           let number : suc frames + left ≡ frames + suc left = omega arith in
           let stays : run set switches held (frames + suc left) ≡ run set switches held (suc frames) =
-          ap (run set switches held) (sym number)
-          ∙ run-stays set switches held (suc frames) left stop (ap (λ (w : Walk BoardView). w.stop) whole) in
-          frame-first frames (frames + suc left) plays.new plays.more plays.others_seen is
-          (ap (λ (w : Walk BoardView). w.outputs) whole)
+          cc (number, run-stays set switches held (suc frames) left stop (ap (λ (w : Walk BoardView). w.stop) whole)) in
+          frame-first _ _ _ _ _ is (ap (λ (w : Walk BoardView). w.outputs) whole)
           (seen-closed frames stop plays.new is stands.open_yet ends)
           (nothing-more (suc frames) (frames + suc left) plays.more plays.others_seen stays none)
 

@@ -1,6 +1,5 @@
 -- No call of a host that plays frame by frame fails.
-use Rattle.std.proofs.Common.{◌≡◌, ◌≢◌, ◌≤◌, ◌+◌, ℕ, ℤ, List, length, Result, Ok, Err}
-use Rattle.std.proofs.Common.{◌⊎◌, inl, inr, refl, sym, ap, subst, arith}
+use Rattle.std.proofs.Common.{◌≡◌, ◌≢◌, ◌≤◌, ◌+◌, ℕ, ℤ, List, length, Result, Ok, Err, rules, ◌⊎◌, inl, inr, refl, sym, ap, subst, arith}
 use Rattle.pac_board.specs.State.{BoardState, most_asked}
 use Rattle.pac_state.specs.Block.{IsBlock}
 use Rattle.pac_state.specs.Reading.{state_in}
@@ -9,7 +8,7 @@ use Rattle.pac_block.specs.declared.codes.HostFault.TheVariants.{WrongLength, No
 use Rattle.pac_block.specs.Codes.{code_of}
 use Rattle.pac_block.specs.Films.{Player, FrameCalls, HasRoom, IsBetweenFrames, IsFrameAnswered, AllFramesAreDone, all_inputs}
 use Rattle.pac_block.specs.Host.{roms_size, board_in, asked_in, board_holding, most_samples, room_of, rgba_size}
-use Rattle.pac_block.specs.Host.{HasBecome, TellsRun, Becomes, ExecFails, Execs, Draws}
+use Rattle.pac_block.specs.Host.{Becomes, ExecFails, Execs, Draws}
 use Rattle.pac_block.specs.HostLaws.{IsNotBehind}
 use Rattle.pac_block.proofs.Films.{was-done}
 use Rattle.pac_block.proofs.Stops.{left-not-behind}
@@ -24,17 +23,12 @@ record IsDone (comes_to : Result (Unit {0}) HostFault → Type 0) (code : ℕ) :
 
 call-done : (comes_to : Result (Unit {0}) HostFault → Type 0) (code : ℕ) (answer : Result (Unit {0}) HostFault) → code ≡ code_of answer
     → comes_to answer → ((fault : HostFault) → comes_to (Err fault) → ⊥) → IsDone comes_to code
-call-done comes_to code (Ok done) is does never = record { code_is = is; done = does }
-call-done comes_to code (Err fault) is does never = absurd (never fault does)
+call-done comes_to code answer is does never = search rules
 
 held-done : (inputs : ℕ) (old new : List ℕ) → IsBlock old → (fault : HostFault)
     → Becomes (board_holding inputs all_inputs) old (Err fault) new → ⊥
 held-done inputs old new block NoBoard not = not.0 block
-held-done inputs old new block WrongLength not = not.0
-held-done inputs old new block TooLong not = not.0
-held-done inputs old new block NoRoom not = not.0
-held-done inputs old new block (NoFile fault) not = not.0
-held-done inputs old new block Closed not = not.0
+held-done inputs old new block fault not = not.0
 
 exec-done : (roms block : List ℕ) (samples : List ℤ) → length roms ≡ roms_size → IsBlock block → asked_in block + 16500 ≤ most_asked
     → most_samples (state_in block) 16500 ≤ room_of samples → (fault : HostFault) → ExecFails roms block 16500 samples fault → ⊥
@@ -42,8 +36,7 @@ exec-done roms block samples roms_are is_block within room WrongLength not = not
 exec-done roms block samples roms_are is_block within room NoBoard not = not.1 is_block
 exec-done roms block samples roms_are is_block within room TooLong not = let far = not.2 in omega (arith, far, within)
 exec-done roms block samples roms_are is_block within room NoRoom not = let few = not.3 in omega (arith, few, room)
-exec-done roms block samples roms_are is_block within room (NoFile fault) not = not
-exec-done roms block samples roms_are is_block within room Closed not = not
+exec-done roms block samples roms_are is_block within room fault not = not
 
 drawn-done : (roms block old new : List ℕ) → length roms ≡ roms_size → length old ≡ rgba_size → IsBlock block → (fault : HostFault)
     → Draws roms block old (Err fault) new → ⊥
@@ -66,21 +59,16 @@ frame-done : (roms : List ℕ) (inputs hold_code exec_code draw_code : ℕ) (old
 frame-done roms inputs hold_code exec_code draw_code old new room stands within calls =
     let hold = call-done (λ answer. Becomes (board_holding inputs all_inputs) old.block answer calls.between) hold_code calls.hold.answer
     calls.hold.code_is calls.hold.done (held-done inputs old.block calls.between stands.block_is) in
-    let becomes : HasBecome (board_holding inputs all_inputs) old.block calls.between = hold.done in
-    let held = becomes.board roms in
+    let held = hold.done.board roms in
     let asked : asked_in calls.between ≡ asked_in old.block = ap (λ (state : BoardState). state.asked) held.state_is in
     let in_time = subst IsNotBehind (sym held.state_is) (record { asked = stands.in_time.asked; due = stands.in_time.due }) in
     let few = room-bounded (state_in calls.between) 16500 in_time in
     let wide = room.samples in
-    let exec = call-done
-    (λ answer. Execs roms calls.between 16500 old.samples old.told answer new.block new.samples new.told)
-    exec_code calls.exec.answer calls.exec.code_is calls.exec.done
-    (λ fault not. exec-done roms calls.between old.samples room.roms_are held.block_is
+    let exec = call-done (λ answer. Execs roms calls.between 16500 old.samples old.told answer new.block new.samples new.told)
+    _ _ calls.exec.code_is calls.exec.done (λ fault not. exec-done roms calls.between old.samples room.roms_are held.block_is
     (subst (λ n. n + 16500 ≤ most_asked) (sym asked) within) (omega (arith, few, wide)) fault not.0) in
-    let told : TellsRun roms calls.between 16500 old.samples new.block new.samples new.told = exec.done in
-    let executes = told.executed in
-    let draw = call-done (λ answer. Draws roms new.block old.rgba answer new.rgba) draw_code
-    calls.draw.answer calls.draw.code_is calls.draw.done
+    let executes = exec.done.executed in
+    let draw = call-done (λ answer. Draws roms new.block old.rgba answer new.rgba) _ _ calls.draw.code_is calls.draw.done
     (drawn-done roms new.block old.rgba new.rgba room.roms_are room.rgba executes.board.block_is) in
     record {
       hold = hold.code_is;

@@ -1,11 +1,10 @@
 -- The block of a file's board.
-use Rattle.std.proofs.Common.{◌≡◌, ◌<◌, ◌==◌, ℕ, Bool, true, false, if◌then◌else◌}
+use Rattle.std.proofs.Common.{◌≡◌, ◌<◌, ◌==◌, ℕ, Bool, true, false, if◌then◌else◌, rules}
 use Rattle.std.proofs.Common.{List, length, get_or, Ok, Err, refl, ap, subst, ◌∙◌, arith}
 use Rattle.pac_board.specs.BoardFields.{Fields}
-use Rattle.pac_board.specs.BoardView.{video_roms, video_memory}
 use Rattle.pac_board.specs.Fields.{state_of}
 use Rattle.pac_board.specs.RomParts.{Parts}
-use Rattle.pac_board.specs.State.{BoardState, BoardValue, passed_lines}
+use Rattle.pac_board.specs.State.{BoardState, BoardValue}
 use Rattle.pac_state.specs.declared.fault.LoadFault.{LoadFault}
 use Rattle.pac_state.specs.Block.{block_text}
 use Rattle.pac_state.specs.Files.{IsState}
@@ -20,23 +19,15 @@ use Rattle.pac_block.specs.Passed.{recomposed_state, upgraded_state}
 use Rattle.pac_block.proofs.Becoming.{block-of}
 use Rattle.pac_block.proofs.Recomposing.{recomposed-is-state}
 
-upgraded-of : (is_old : Bool) (board view : BoardValue)
-    → (if is_old then view.state else board.state) ≡ (if is_old then view else board).state
-upgraded-of true board view = refl
-upgraded-of false board view = refl
-
 upgraded-is : (set : Parts) (version : ℕ) (state : BoardState)
     → upgraded_state set version state ≡ (upgraded_board version (record { set = set; state = state; made = 0 })).state
-upgraded-is set version state =
-    upgraded-of (version == 1) (record { set = set; state = state; made = 0 })
-    (record { set = set; state = recomposed_state set state; made = 0 })
+upgraded-is set version state = search rules
 
 upgraded-is-state : (set : Parts) (version : ℕ) (state : BoardState) → IsState state → IsState (upgraded_state set version state)
 upgraded-is-state set version state is = either (version == 1)
   where
     either : (is_old : Bool) → IsState (if is_old then recomposed_state set state else state)
-    either true =
-        recomposed-is-state (video_roms set) (video_memory state.now.board.memory) (passed_lines state.now.time) state (omega arith) is
+    either true = recomposed-is-state _ _ _ _ (omega arith) is
     either false = is
 
 -- the block of the state that is left is that of the file's board

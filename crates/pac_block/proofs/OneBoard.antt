@@ -1,10 +1,10 @@
 -- The calls on a host's blocks are the calls of one board, whose count of steps is all that its blocks don't keep.
-use Rattle.std.proofs.Common.{◌≡◌, ℕ, ◌==◌, Bool, true, false, if◌then◌else◌, List, [], ◌∷◌, refl, ap, ◌∙◌}
+use Rattle.std.proofs.Common.{◌≡◌, ℕ, ◌==◌, Bool, if◌then◌else◌, List, [], ◌∷◌, refl, ap, ◌∙◌, rules}
 use Rattle.pac_board.specs.State.{BoardState, BoardValue}
 use Rattle.pac_state.specs.Files.{IsFile, board_of_file}
 use Rattle.pac_state.specs.Reading.{state_in}
 use Rattle.pac_block.specs.Host.{board_after_exec, set_of_roms}
-use Rattle.pac_block.specs.HostLaws.{HostCall, PowerOn, ResetNow, HoldInputs, LetTimePass, TakeFile}
+use Rattle.pac_block.specs.HostLaws.{HostCall, PowerOn, LetTimePass, TakeFile}
 use Rattle.pac_block.specs.HostLaws.{IsCallDone, AreDone, IsCallOfBoard, AreCallsOfBoard, BlocksAreOneBoard}
 
 -- the board of these ROMs in this state, which counted so many steps
@@ -23,8 +23,7 @@ upgraded-is : (b : Bool) (board view : BoardValue) → board.set ≡ view.set �
     → ◌≡◌ {A = BoardValue}
     (record { set = board.set; state = (if b then view else board).state; made = board.made })
     (if b then view else board)
-upgraded-is true board view set made = λ i. record { set = set i; state = view.state; made = made i }
-upgraded-is false board view set made = refl
+upgraded-is b board view set made = search rules
 
 file-board-is : (roms text : List ℕ) (file : IsFile (set_of_roms roms) text)
     → kept roms (board_of_file (set_of_roms roms) file).state 0 ≡ board_of_file (set_of_roms roms) file
@@ -35,14 +34,6 @@ one-call roms (PowerOn switches) old new made done = record {
   after = 0;
   call_is = ap (λ (state : BoardState). kept roms state 0) done.board.state_is;
 }
-one-call roms ResetNow old new made done = record {
-  after = made;
-  call_is = ap (λ (state : BoardState). kept roms state made) (done.board roms).state_is;
-}
-one-call roms (HoldInputs set clear) old new made done = record {
-  after = made;
-  call_is = ap (λ (state : BoardState). kept roms state made) (done.board roms).state_is;
-}
 one-call roms (LetTimePass microseconds) old new made done =
     let after = (board_after_exec (kept roms (state_in old) made) microseconds).made in
     record { after = after; call_is = ap (λ (state : BoardState). kept roms state after) done.3.board.state_is }
@@ -52,6 +43,10 @@ one-call roms (TakeFile text) old new made done = record {
     done.file,
     ap (λ (state : BoardState). kept roms state 0) (done.board done.file).state_is ∙ file-board-is roms text done.file,
   );
+}
+one-call roms call old new made done = record {
+  after = made;
+  call_is = ap (λ (state : BoardState). kept roms state made) (done.board roms).state_is;
 }
 
 -- ---- calls, one after another
@@ -70,14 +65,8 @@ are-made roms [] old new made done = record {
 }
 are-made roms (call ∷ calls) old new made done =
     let one = one-call roms call old done.0 made done.1 in
-    let more = are-made roms calls done.0 new one.after done.2 in
-    record {
-      board = more.board;
-      calls_are = (kept roms (state_in done.0) one.after, one.call_is, more.calls_are);
-      state = more.state;
-    }
+    let more = are-made roms calls done.0 new one.after done.2 in search rules
 
 pub blocks-are-one-board : BlocksAreOneBoard
-blocks-are-one-board roms calls old new done =
-    let all = are-made roms calls old new 0 done in
+blocks-are-one-board roms calls old new done = let all = are-made _ _ _ _ _ done in
     record { board = all.board; made = all.calls_are; state = all.state }

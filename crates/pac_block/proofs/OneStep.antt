@@ -1,25 +1,18 @@
 -- A microsecond has at most four T-states, as many as each step takes at least.
-use Rattle.std.proofs.Common.{◌≤◌, ℕ, ◌+◌, Bool, true, false, nat_le, None, ap, sym, subst, ◌∙◌, arith}
+use Rattle.std.proofs.Common.{◌≤◌, ℕ, ◌+◌, Bool, nat_le, None, ap, sym, subst, ◌∙◌, arith, rules}
 use Rattle.pac_board_model.specs.Laws.{IsTimely}
-use Rattle.pac_board_model.specs.Step.{Moment, Next, Goes, Ends, step}
+use Rattle.pac_board_model.specs.Step.{Moment, Next, step}
 use Rattle.pac_board_model.specs.Trace.{by_view}
-use Rattle.pac_board_model.specs.Walk.{onward_if, walk_at_start, walk_after_step}
+use Rattle.pac_board_model.specs.Walk.{onward_if, walk_at_start}
 use Rattle.pac_board_model.proofs.Walks.{ended-whole, step-timely, walk-ends}
 use Rattle.pac_board.specs.State.{BoardState, time_of}
 use Rattle.pac_state.specs.Reading.{state_in}
 use Rattle.pac_block.specs.Host.{set_of_roms}
 use Rattle.pac_block.specs.HostLaws.{OneStepAtMost}
 
--- a step is one step, and a stop none
-step-counted : {Board : Type 0} (now : Moment Board) (next : Next Board) → IsTimely now next
-    → (walk_after_step (walk_at_start now) next).now.steps ≤ now.steps + 1
-step-counted now (Goes after outputs kind) timely = let one = timely.2 in omega (arith, one)
-step-counted now (Ends stop) timely = omega arith
-
 first-counted : {Board : Type 0} (next : Moment Board → Next Board) (now : Moment Board) (late : Bool) → IsTimely now (next now)
     → (onward_if next (walk_at_start now) None late).now.steps ≤ now.steps + 1
-first-counted next now true timely = omega arith
-first-counted next now false timely = step-counted now (next now) timely
+first-counted next now late timely = search rules
 
 -- the time of a microsecond more
 pub soon : (asked time : ℕ) → time_of asked ≤ time → time_of (asked + 1) ≤ time + 4

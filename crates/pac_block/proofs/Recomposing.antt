@@ -1,11 +1,10 @@
 -- Lines of the picture in a block that are composed again, from the top.
-use Rattle.std.proofs.Common.{◌≡◌, ◌<◌, ◌≤◌, ℕ, zero, suc, ◌+◌, ◌-◌, ◌*◌, List, [], ◌∷◌, ◌++◌, length, get_or, take, drop}
+use Rattle.std.proofs.Common.{◌≡◌, ◌<◌, ◌≤◌, ℕ, zero, suc, ◌+◌, ◌*◌, List, [], ◌∷◌, ◌++◌, length, get_or, take, drop}
 use Rattle.std.proofs.Common.{refl, sym, ap, subst, ◌∙◌, arith, append_assoc}
 use Rattle.std.proofs.Math.Seq.{take-append_seam, drop-append_seam, drop-cons}
-use Rattle.std.proofs.lemmas.Grind.{flat_map-append}
+use Rattle.std.proofs.lemmas.Grind.{flat_map-append, common_steps}
 use Rattle.std.proofs.lemmas.Bool.{cases_lt}
 use Rattle.std.proofs.lemmas.List.{length-append, drop-drop, length-drop, get_or_append_left, get_or-append_right, get_or-drop}
-use mathlib.Core.Logic.{inl, inr}
 use Rattle.pac_num.proofs.Tabulated.{length-tabulate, get_or-tabulate}
 use Rattle.pac_num.specs.Tabulate.{tabulate}
 use Rattle.pac_board.specs.PictureState.{IsPicture}
@@ -25,18 +24,7 @@ use Rattle.pac_block.specs.Passed.{picture_offset, composed_lines, state_with_li
 line-of : (P : List ℕ → Type 0) (value : ℕ → List ℕ) (count : ℕ) (lines : List (List ℕ)) (y : ℕ) → P (value y) → P (get_or lines y [])
     → P (get_or (tabulate count value ++ drop count lines) y [])
 line-of P value count lines y made there =
-    let before = tabulate count value in
-    let long = length-tabulate count value in
-    elim (cases_lt y count) [
-      | inl above ↦
-          subst P (sym (get_or_append_left before (drop count lines) [] y (omega (arith, long, above))
-          ∙ get_or-tabulate count value y [] above)) made
-      | inr past ↦
-          let place : count + (y - count) ≡ y = omega (arith, past) in
-          subst P (sym (get_or-append_right before (drop count lines) count y [] long (omega (arith, past))
-          ∙ get_or-drop count lines (y - count) []
-          ∙ ap (λ (y : ℕ). get_or lines y []) place)) there
-    ]
+    grind (arith, cases_lt, get_or-append_right, get_or-drop, get_or-tabulate, get_or_append_left, length-tabulate)
 
 pub composed-picture : (roms : VideoRoms) (memory : VideoMemory) (count : ℕ) (lines : List (List ℕ)) → IsPicture lines → count ≤ 224
     → IsPicture (composed_lines roms memory count lines)
@@ -46,10 +34,9 @@ composed-picture roms memory count lines picture within =
     let long = length-tabulate count value in
     let left = length-drop count lines in
     let all = length-append (tabulate count value) (drop count lines) in
-    picture-is (composed_lines roms memory count lines) (omega (arith, high, within, long, left, all))
+    picture-is _ (omega (arith, high, within, long, left, all))
     (λ y below. line-of (λ (line : List ℕ). length line ≡ 288) value count lines y (length-line_of roms memory y) (picture.wide y below))
-    (λ x y below. line-of (λ (line : List ℕ). get_or line x 0 < 16) value count lines y (line-below roms memory y x)
-    (picture.below x y))
+    (λ x y below. line-of (λ (line : List ℕ). get_or line x 0 < 16) value count lines y (line-below roms memory y x) (picture.below x y))
 
 -- ---- one line more in a block
 
@@ -63,23 +50,14 @@ spliced at before old new after here same =
     subst (λ (at : ℕ). drop at (before ++ (old ++ after)) ≡ old ++ after) here (drop-append_seam before (old ++ after)) in
     let rest : drop (at + length new) (before ++ (old ++ after)) ≡ after =
     sym (drop-drop (length new) at (before ++ (old ++ after))) ∙ ap (drop (length new)) last
-    ∙ subst (λ (size : ℕ). drop size (old ++ after) ≡ after) same (drop-append_seam old after) in
-    ap (λ (front : List ℕ). (front ++ new) ++ drop (at + length new) (before ++ (old ++ after))) first
-    ∙ ap (λ (after : List ℕ). (before ++ new) ++ after) rest
-    ∙ append_assoc before new after
+    ∙ subst (λ (size : ℕ). drop size (old ++ after) ≡ after) same (drop-append_seam old after) in grind (arith, common_steps)
 
 -- where the lines that are composed end
 lines-long : (value : ℕ → List ℕ) → ((y : ℕ) → length (value y) ≡ 288) → (count : ℕ)
     → length (joined_pieces (tabulate count value)) ≡ 288 * count
 unfolding tabulate
 lines-long value wide zero = refl
-lines-long value wide (suc count) =
-    let before = lines-long value wide count in
-    let line = wide count in
-    let joined = length-append (joined_pieces (tabulate count value)) (joined_pieces (value count ∷ [])) in
-    let last = length-append (value count) [] in
-    ap length (flat_map-append (λ (piece : List ℕ). piece) (tabulate count value) (value count ∷ []))
-    ∙ omega (arith, before, line, joined, last)
+lines-long value wide (suc count) = grind (arith, flat_map-append, length-append, lines-long value wide count)
 
 -- a text with one of its pieces, and what stands before and after that
 apart : (front : List ℕ) (before : List (List ℕ)) (piece : List ℕ) (after : List (List ℕ)) (end : List ℕ)
@@ -103,9 +81,7 @@ front-same roms memory count state = refl
 text-is : (roms : VideoRoms) (memory : VideoMemory) (count : ℕ) (state : BoardState)
     → block_text (state_with_lines roms memory count state) ≡ with_text state (composed_lines roms memory count state.now.board.lines)
 unfolding block_text
-text-is roms memory count state =
-    ap (λ (front : List ℕ). (front ++ joined_pieces (composed_lines roms memory count state.now.board.lines)) ++ no_digest)
-    (front-same roms memory count state)
+text-is roms memory count state = grind (arith, front-same)
 
 -- none yet
 pub none-yet : (roms : VideoRoms) (memory : VideoMemory) (state : BoardState) → state_with_lines roms memory 0 state ≡ state
@@ -121,14 +97,11 @@ line-put roms memory state y line old new is below composed text put =
     let lines = state.now.board.lines in
     let value = picture_line roms memory in
     let front = file_front written_version no_digest state in
-    let high = is.range.picture.high in
     let before = tabulate y value in
     let after = drop (suc y) lines in
     let here = get_or lines y [] in
-    let left : drop y lines ≡ here ∷ after = drop-cons lines y [] (omega (arith, high, below)) in
-    let was : old ≡ (front ++ joined_pieces before) ++ (here ++ (joined_pieces after ++ no_digest)) =
-    text ∙ text-is roms memory y state ∙ ap (λ (rest : List (List ℕ)). with_text state (before ++ rest)) left
-    ∙ apart front before here after no_digest in
+    let left : drop y lines ≡ here ∷ after = drop-cons lines y [] (omega (arith, below)) in
+    let was : old ≡ (front ++ joined_pieces before) ++ (here ++ (joined_pieces after ++ no_digest)) = grind (arith, apart, text-is) in
     let wide : length line ≡ 288 = ap length composed ∙ length-line_of roms memory y in
     let width : length here ≡ length line = is.range.picture.wide y below ∙ sym wide in
     let first = length-front written_version no_digest state refl is.memory in

@@ -19,8 +19,7 @@ module _ (bounded : RoomIsBounded) where
   all-keep : (calls : List (List ℕ × HostCall)) (old new : List ℕ) → AreDoneOver calls old new → NoneTakesAFile calls
       → IsNotBehind (state_in old) → IsNotBehind (state_in new)
   all-keep [] old new done none timely = subst (λ (block : List ℕ). IsNotBehind (state_in block)) (sym done) timely
-  all-keep (call ∷ calls) old new done none timely =
-      all-keep calls done.0 new done.2 none.1 (keeps call.0 call.1 old done.0 done.1 none.0 timely)
+  all-keep (call ∷ calls) old new done none timely = all-keep calls done.0 new done.2 none.1 (keeps _ _ _ _ done.1 none.0 timely)
 
   pub room-is-enough : RoomIsEnough
   room-is-enough roms switches calls old block microseconds samples done none room =

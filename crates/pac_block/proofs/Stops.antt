@@ -1,6 +1,5 @@
 -- A board that a stop has left: it isn't behind, and meets the stop again whatever time is asked of it.
-use Rattle.std.proofs.Common.{◌≡◌, ◌≤◌, ◌<◌, ℕ, suc, zero, ◌+◌, ◌-◌, [], ◌++◌, Option, None, Some}
-use Rattle.std.proofs.Common.{refl, sym, ap, subst, ◌∙◌, arith}
+use Rattle.std.proofs.Common.{◌≡◌, ◌≤◌, ◌<◌, ℕ, suc, zero, ◌+◌, ◌-◌, [], ◌++◌, Option, None, Some, rules, refl, sym, ap, subst, ◌∙◌, arith}
 use Rattle.pac_board.specs.BoardView.{BoardView}
 use Rattle.pac_board.specs.Calls.{course, outputs_given, board_after_run, run_ticks}
 use Rattle.pac_board.specs.Laws.{TimeCanBeCut}
@@ -34,8 +33,7 @@ module _ {Board : Type 0} (next : Moment Board → Next Board) (timely : (now : 
   -- where the next step is a stop, each walk meets it
   pub stops : (limit : ℕ) (now : Moment Board) (stop : Stop) → now.time < limit → next now ≡ Ends stop
       → walk_to next limit now ≡ stopped_at now stop
-  stops limit now stop early ends =
-      let one = one-step limit now early ∙ ap (walk_after_step (walk_at_start now)) ends in
+  stops limit now stop early ends = let one = one-step _ _ early ∙ ap (walk_after_step (walk_at_start now)) ends in
       sym (ended-whole next limit timely now (suc zero) (ap (has_ended limit) one)) ∙ one
 
   -- where a walk met a stop and no time went by, the next step is that stop
@@ -46,17 +44,11 @@ module _ {Board : Type 0} (next : Moment Board → Next Board) (timely : (now : 
       choose : (h : Next Board) → next now ≡ h → next now ≡ Ends stop
       choose (Goes after outputs kind) e =
           let times = subst (IsTimely now) e (timely now) in
-          let longer = times.0 in
           let one = one-step limit now early ∙ ap (walk_after_step (walk_at_start now)) e in
           let whole = goes-on next limit timely now (suc zero) in
-          let last : (walk_to next limit after).now.time ≡ now.time =
-          sym (ap (λ (w : Walk Board). (walk_to next limit w.now).now.time) one)
-          ∙ ap (λ (w : Walk Board). w.now.time) whole ∙ same in
-          let more = (walked-after next limit timely after limit).time in
-          absurd (omega (arith, longer, last, more))
-      choose (Ends other) e =
-          let found = ap (λ (w : Walk Board). w.stop) (stops limit now other early e) in
-          cc
+          let last : (walk_to next limit after).now.time ≡ now.time = search rules in
+          absurd (omega (arith, last, (walked-after next limit timely after limit).time))
+      choose (Ends other) e = grind (arith, stops)
 
   -- a walk that met a stop stands where the next step is that stop
   pub met-stop : (limit : ℕ) (from : Moment Board) (stop : Stop) → (walk_to next limit from).stop ≡ Some stop
@@ -72,29 +64,11 @@ module _ {Board : Type 0} (next : Moment Board → Next Board) (timely : (now : 
 -- no more than before
 pub left-within : (stop : Option Stop) (state : BoardState) → StopsEarly stop state
     → asked_left stop state.asked state.now.time ≤ state.asked
-left-within None state open_yet = omega arith
-left-within (Some stop) state early = omega (arith, early)
+left-within stop state open_yet = search rules
 
 -- so it is a state that a board can have
 pub left-is-state : (stop : Option Stop) (state : BoardState) → StopsEarly stop state → IsState state → IsState (state_left stop state)
-left-is-state stop state early is =
-    let within = left-within stop state early in
-    let most = is.range.asked in
-    record {
-      words = is.words;
-      memory = is.memory;
-      held = is.held;
-      sample = is.sample;
-      range = record {
-        registers = is.range.registers;
-        count = is.range.count;
-        accumulators = is.range.accumulators;
-        steps = is.range.steps;
-        time = is.range.time;
-        asked = omega (arith, within, most);
-        picture = is.range.picture;
-      };
-    }
+left-is-state stop state early is = search rules
 
 -- ---- a call for some time
 
@@ -104,9 +78,7 @@ module _ (board : BoardValue) (microseconds : ℕ) where
 
   -- at a stop the time that was asked isn't over
   early-at : (stop : Option Stop) → (course board microseconds).stop ≡ stop → StopsEarly stop (board_after_run board microseconds).state
-  early-at None open_yet = tt
-  early-at (Some stop) met =
-      stopped-is-early (step (by_view board.set)) (time_of asked) board.state.now (time_of asked) stop met
+  early-at stop open_yet = grind (arith, stopped-is-early)
 
   pub stopped-early : StopsEarly (course board microseconds).stop (board_after_run board microseconds).state
   stopped-early = early-at (course board microseconds).stop refl
@@ -164,60 +136,25 @@ module _ (board : BoardValue) (one other : ℕ) where
 
   pub stopped-again : (stop : Stop) → (course board one).stop ≡ Some stop
       → course (board_after_exec board one) other ≡ stopped_at (step (by_view board.set)) (step-timely (by_view board.set)) now stop
-  stopped-again stop met =
-      ap (λ met. course (with_asked (asked_left met all_asked now.time)) other) met
-      ∙ met-again (least_asked now.time) stop met (least-leaves-time now.time other)
+  stopped-again stop met = grind (arith, least-leaves-time, met-again)
 
   -- and leaves what the first has left
   pub left-again : (stop : Stop) → (course board one).stop ≡ Some stop
       → (board_after_exec (board_after_exec board one) other).state ≡ (board_after_exec board one).state
-  left-again stop met =
-      ap (λ (w : Walk BoardView). state_left w.stop (record {
-        now = w.now;
-        asked = (board_after_exec board one).state.asked + other;
-        due = nothing_due;
-      })) (stopped-again stop met)
-      ∙ ap (λ met. state_left met (board_after_run board one).state) (sym met)
+  left-again stop met = grind (arith, stopped-again)
 
   pub left-in-parts : TimeCanBeCut → AreLeftInParts (board_after_exec board one)
   left-in-parts cuts = choose (course board one).stop refl
     where
       choose : (stop : Option Stop) → (course board one).stop ≡ stop → AreLeftInParts (board_after_exec board one)
-      choose None open_yet =
-          let cut = cuts board one other in
-          subst (λ met. AreLeftInParts (with_asked (asked_left met all_asked now.time))) (sym open_yet)
-          (record {
-            state = λ i. state_left (cut.stop_is i) (cut.board_is i).state;
-            given = cut.given_is;
-            ticks = cut.ticks;
-            stop = cut.stop_is;
-          })
+      choose None open_yet = search rules
       choose (Some stop) met =
           let cut = cuts board one other in
           let again = stopped-again stop met in
           let whole = course (with_asked all_asked) other in
-          let early : now.time < time_of (all_asked + other) =
-          let first = early-at board one (Some stop) met in omega (arith, first) in
+          let early : now.time < time_of (all_asked + other) = let first = early-at board _ _ met in omega (arith, first) in
           let same : course (board_after_exec board one) other ≡ whole = again ∙ sym (met-again all_asked stop met early) in
           let stopped : whole.stop ≡ Some stop = ap (λ (w : Walk BoardView). w.stop) (met-again all_asked stop met early) in
           let final : (course board (one + other)).stop ≡ Some stop = sym cut.stop_is ∙ stopped in
           let time : whole.now.time ≡ (course board (one + other)).now.time =
-          ap (λ (board : BoardValue). board.state.now.time) cut.board_is in
-          record {
-            state =
-                ap (λ (w : Walk BoardView). state_left w.stop (record {
-                  now = w.now;
-                  asked = (board_after_exec board one).state.asked + other;
-                  due = nothing_due;
-                })) same
-                ∙ ap (λ met. state_left met (record {
-                  now = whole.now;
-                  asked = (board_after_exec board one).state.asked + other;
-                  due = nothing_due;
-                })) stopped
-                ∙ ap (λ (board : BoardValue). state_left (Some stop) board.state) cut.board_is
-                ∙ ap (λ met. state_left met (board_after_run board (one + other)).state) (sym final);
-            given = ap (λ (w : Walk BoardView). outputs_given board one ++ w.outputs) same ∙ cut.given_is;
-            ticks = ap (λ (w : Walk BoardView). run_ticks board one + (w.now.time - now.time)) same ∙ cut.ticks;
-            stop = ap (λ (w : Walk BoardView). w.stop) same ∙ cut.stop_is;
-          }
+          ap (λ (board : BoardValue). board.state.now.time) cut.board_is in search rules

@@ -1,49 +1,40 @@
 -- Time of a host's board that is cut, and the room that it needs.
-use Rattle.std.proofs.Common.{◌≡◌, ◌≤◌, ◌<◌, ℕ, ℤ, ◌+◌, ◌-◌, ◌*◌, ◌/◌, ◌==◌, Bool, true, false, nat_lt, if◌then◌else◌}
+use Rattle.std.proofs.Common.{◌≡◌, ◌≤◌, ℕ, ℤ, ◌+◌, ◌-◌, ◌*◌, ◌/◌, ◌==◌, Bool, true, false, if◌then◌else◌, rules}
 use Rattle.std.proofs.Common.{List, [], ◌∷◌, ◌++◌, take, drop, Option, None, Some, refl, sym, ap, subst, ◌∙◌, arith}
-use Rattle.std.proofs.lemmas.Bool.Decides.{nat_tests}
-use Rattle.pac_board.specs.Calls.{course, outputs_given}
-use Rattle.pac_board.specs.Calls.{run_ticks}
+use Rattle.pac_board.specs.Calls.{course, outputs_given, run_ticks}
 use Rattle.pac_board.specs.Laws.{TimeCanBeCut}
 use Rattle.pac_board.specs.BoardView.{BoardView}
 use Rattle.pac_board.specs.Output.{Output, Sound, Show, sound_count, picture_count}
-use Rattle.pac_board.specs.Step.{sample_ticks}
-use Rattle.pac_board.specs.State.{BoardState, BoardValue, time_of}
+use Rattle.pac_board.specs.State.{BoardState, BoardValue}
 use Rattle.pac_board.specs.Stop.{Stop}
 use Rattle.pac_board.specs.Walk.{Walk}
 use Rattle.pac_state.specs.Block.{block_text}
 use Rattle.pac_state.specs.Reading.{state_in}
 use Rattle.pac_block.specs.declared.ran.PacRan.{PacRan}
 use Rattle.pac_block.specs.Codes.{ran_of}
-use Rattle.pac_block.specs.Host.{set_of_roms, board_after_exec, samples_given, samples_due, least_asked, most_samples}
-use Rattle.pac_block.specs.Host.{HasExecuted}
-use Rattle.pac_block.specs.HostLaws.{stop_told, HostTimeCanBeCut, StopsAreMetAgain, IsStoppedStill, RoomIsBounded, IsNotBehind}
-use Rattle.pac_block.specs.HostLaws.{IsCallDone, KeepsUp}
-use Rattle.pac_block.specs.HostLaws.{HostCall, PowerOn, ResetNow, HoldInputs, LetTimePass, TakeFile}
+use Rattle.pac_block.specs.Host.{set_of_roms, board_after_exec, samples_given, most_samples, HasExecuted}
+use Rattle.pac_block.specs.HostLaws.{stop_told, HostTimeCanBeCut, StopsAreMetAgain, IsStoppedStill, RoomIsBounded, IsNotBehind, IsCallDone}
+use Rattle.pac_block.specs.HostLaws.{KeepsUp, HostCall, PowerOn, ResetNow, HoldInputs, LetTimePass, TakeFile}
 use Rattle.pac_block.proofs.Sounding.{sounds-append, pictures-append, samples-append}
 use Rattle.pac_block.proofs.Stops.{left-again, left-in-parts, left-not-behind, stopped-again}
 
 -- ---- what is told of a run
 
 told-ticks : (ticks samples pictures : ℕ) (stop : Option Stop) → (ran_of ticks samples pictures stop).ticks ≡ ticks
-told-ticks ticks samples pictures None = refl
-told-ticks ticks samples pictures (Some stop) = refl
+told-ticks ticks samples pictures stop = search rules
 
 pub told-samples : (ticks samples pictures : ℕ) (stop : Option Stop) → (ran_of ticks samples pictures stop).samples ≡ samples
-told-samples ticks samples pictures None = refl
-told-samples ticks samples pictures (Some stop) = refl
+told-samples ticks samples pictures stop = search rules
 
 told-pictures : (ticks samples pictures : ℕ) (stop : Option Stop) → (ran_of ticks samples pictures stop).pictures ≡ pictures
-told-pictures ticks samples pictures None = refl
-told-pictures ticks samples pictures (Some stop) = refl
+told-pictures ticks samples pictures stop = search rules
 
 -- a stop alone
 abbrev pub told_stop : Option Stop → PacRan
 told_stop stop = ran_of 0 0 0 stop
 
 told-stop : (ticks samples pictures : ℕ) (stop : Option Stop) → stop_told (ran_of ticks samples pictures stop) ≡ told_stop stop
-told-stop ticks samples pictures None = refl
-told-stop ticks samples pictures (Some stop) = refl
+told-stop ticks samples pictures stop = search rules
 
 -- the samples stand at the head of the buffer
 pub head-is : (outputs : List Output) (rest : List ℤ) → take (sound_count outputs) (samples_given outputs ++ rest) ≡ samples_given outputs
@@ -74,8 +65,7 @@ tells roms block microseconds buffer new samples ran done =
     let sounds = sound_count outputs in
     let pictures = picture_count outputs in
     let stop = (course board microseconds).stop in
-    let count : ran.samples ≡ sounds =
-    ap (λ (ran : PacRan). ran.samples) done.ran_is ∙ told-samples ticks sounds pictures stop in
+    let count : ran.samples ≡ sounds = ap (λ (ran : PacRan). ran.samples) done.ran_is ∙ told-samples _ _ _ _ in
     record {
       text = done.board.text;
       taken = ap (λ n. take n samples) count ∙ ap (take sounds) done.samples_are ∙ head-is outputs (drop sounds buffer);
@@ -92,8 +82,7 @@ sum-is one other whole a b c first second both sum = omega (arith, first, second
 
 pub host-time-cut : TimeCanBeCut → HostTimeCanBeCut
 host-time-cut cuts roms block middle parts once one other buffer first_samples more second_samples wide whole_samples first second whole
-    first_done second_done whole_done =
-    let board = kept roms (state_in block) in
+    first_done second_done whole_done = let board = kept roms (state_in block) in
     let between = board_after_exec board one in
     let a = tells roms block one buffer middle first_samples first first_done in
     let b = subst (Tells roms other parts second_samples second) first_done.board.state_is
@@ -109,15 +98,9 @@ host-time-cut cuts roms block middle parts once one other buffer first_samples m
           ap (λ samples. samples ++ take second.samples second_samples) a.taken
           ∙ ap (λ samples. samples_given early ++ samples) b.taken
           ∙ sym (samples-append early late) ∙ ap samples_given cut.given ∙ sym c.taken;
-      counts =
-          sum-is first.samples second.samples whole.samples (sound_count early) (sound_count late) (sound_count all) a.count b.count c.count
-          (sym (sounds-append early late) ∙ ap sound_count cut.given);
-      pictures =
-          sum-is first.pictures second.pictures whole.pictures (picture_count early) (picture_count late) (picture_count all)
-          a.pictures b.pictures c.pictures (sym (pictures-append early late) ∙ ap picture_count cut.given);
-      ticks =
-          sum-is first.ticks second.ticks whole.ticks (run_ticks board one) (run_ticks between other) (run_ticks board (one + other))
-          a.ticks b.ticks c.ticks cut.ticks;
+      counts = sum-is _ _ _ _ _ _ a.count b.count c.count (sym (sounds-append early late) ∙ ap sound_count cut.given);
+      pictures = sum-is _ _ _ _ _ _ a.pictures b.pictures c.pictures (sym (pictures-append early late) ∙ ap picture_count cut.given);
+      ticks = sum-is _ _ _ _ _ _ a.ticks b.ticks c.ticks cut.ticks;
       stop = b.stop ∙ ap told_stop cut.stop ∙ sym c.stop;
     }
 
@@ -129,17 +112,7 @@ none-told ran told = ap (λ (ran : PacRan). ran.stop) told
 
 -- two parts of one account: what is told of a run in which nothing went by is its stop alone
 stop-alone : (second : PacRan) → second.ticks ≡ 0 → second.samples ≡ 0 → second.pictures ≡ 0 → second ≡ stop_told second
-stop-alone second ticks samples pictures =
-    λ i. record {
-      ticks = ticks i;
-      samples = samples i;
-      pictures = pictures i;
-      stop = second.stop;
-      pc = second.pc;
-      bytes = second.bytes;
-      vector = second.vector;
-      zero = second.zero;
-    }
+stop-alone second ticks samples pictures = search rules
 
 no-ticks : (time : ℕ) → time - time ≡ 0
 no-ticks time = omega arith
@@ -150,14 +123,12 @@ stops-met-again roms block left parts one other buffer first_samples more second
   where
     choose : (stop : Option Stop) → (course (kept roms (state_in block)) one).stop ≡ stop
         → IsStoppedStill first second left parts more second_samples
-    choose None open_yet =
-        let a = tells roms block one buffer left first_samples first first_done in
+    choose None open_yet = let a = tells _ _ _ _ _ _ _ first_done in
         absurd (told (none-told first (a.stop ∙ ap told_stop open_yet)))
     choose (Some stop) met =
         let board = kept roms (state_in block) in
-        let same = first_done.board.state_is in
         let a = tells roms block one buffer left first_samples first first_done in
-        let b = subst (Tells roms other parts second_samples second) same
+        let b = subst (Tells roms other parts second_samples second) first_done.board.state_is
         (tells roms left other more parts second_samples second second_done) in
         let again = stopped-again board one other stop met in
         let none : outputs_given (kept roms (board_after_exec board one).state) other ≡ [] = ap (λ (w : Walk BoardView). w.outputs) again in
@@ -166,7 +137,7 @@ stops-met-again roms block left parts one other buffer first_samples more second
           samples =
               second_done.samples_are
               ∙ ap (λ state. let outputs = outputs_given (kept roms state) other in
-              samples_given outputs ++ drop (sound_count outputs) more) same
+              samples_given outputs ++ drop (sound_count outputs) more) first_done.board.state_is
               ∙ ap (λ outputs. samples_given outputs ++ drop (sound_count outputs) more) none;
           told =
               stop-alone second
@@ -177,32 +148,9 @@ stops-met-again roms block left parts one other buffer first_samples more second
 
 -- ---- room
 
--- a sample's T-states are at most its share of the microseconds, and what lies between two whole ones
-limit-near : (asked time microseconds : ℕ) → asked ≤ least_asked time
-    → time_of (asked + microseconds) ≤ time + 32 * (microseconds * 12 / 125) + 35
-limit-near asked time microseconds little = omega (arith, little)
-
-few-moments : (time limit samples : ℕ) → time < limit → limit ≤ time + 32 * samples + 35
-    → (limit - 1 + 23) / 32 - time / 32 ≤ samples + 2
-few-moments time limit samples before near = omega arith
-
 pub room-bounded : (state : BoardState) (microseconds : ℕ) → IsNotBehind state
     → most_samples state microseconds ≤ microseconds * 12 / 125 + 2
-room-bounded state microseconds stands = choose (nat_lt state.now.time (time_of (state.asked + microseconds))) refl
-  where
-    choose : (b : Bool) → nat_lt state.now.time (time_of (state.asked + microseconds)) ≡ b
-        → samples_due state.due.sample
-        + (if b then (time_of (state.asked + microseconds) - 1 + 23) / sample_ticks - state.now.time / sample_ticks else 0)
-        ≤ microseconds * 12 / 125 + 2
-    choose true early =
-        let before : state.now.time < time_of (state.asked + microseconds) = grind (arith, nat_tests) in
-        let near = limit-near state.asked state.now.time microseconds stands.asked in
-        let few = few-moments state.now.time (time_of (state.asked + microseconds)) (microseconds * 12 / 125) before near in
-        let due = ap samples_due stands.due in
-        omega (arith, few, due)
-    choose false late =
-        let due = ap samples_due stands.due in
-        omega (arith, due)
+room-bounded state microseconds stands = search rules
 
 -- each call leaves a board as far behind as it is said to
 keeps-up : (roms : List ℕ) (call : HostCall) (old new : List ℕ) → IsCallDone roms call old new → KeepsUp roms call old new

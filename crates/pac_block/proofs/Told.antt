@@ -1,15 +1,12 @@
 -- What a host reads in the bytes that tell of a call for some time is what was told.
-use Rattle.std.proofs.Common.{◌≡◌, ◌≤◌, ◌<◌, ◌+◌, ◌^◌, ℕ, ℤ, List, Option, None, Some, sym, subst, ap, arith}
+use Rattle.std.proofs.Common.{◌≡◌, ◌≤◌, ◌<◌, ◌+◌, ◌^◌, ℕ, ℤ, List, Option, sym, subst, ap, arith, rules}
 use Rattle.std.proofs.lemmas.Nat.{from_le_bytes-to_le_bytes_4}
-use Rattle.pac_board.specs.Calls.{course, outputs_given}
-use Rattle.pac_board.specs.Cause.{Cause}
-use Rattle.pac_board.specs.CauseVariants.{Opcode, Vector}
-use Rattle.pac_board.specs.Calls.{run_ticks}
+use Rattle.pac_board.specs.Calls.{course, outputs_given, run_ticks}
 use Rattle.pac_board.specs.Output.{sound_count, picture_count}
 use Rattle.pac_board.specs.State.{time_of}
 use Rattle.pac_board.specs.Stop.{Stop}
 use Rattle.pac_block.specs.declared.ran.PacRan.{PacRan}
-use Rattle.pac_block.specs.Codes.{cause_number, ran_of, ran_bytes}
+use Rattle.pac_block.specs.Codes.{ran_of, ran_bytes}
 use Rattle.pac_block.specs.Films.{ran_read}
 use Rattle.pac_block.specs.Host.{board_in, HasExecuted}
 use Rattle.pac_block.proofs.Sounding.{sounds-bounded, pictures-bounded}
@@ -27,13 +24,8 @@ read-stop : (ran : PacRan) → ran.stop < 2 ^ 32 → (ran_read (ran_bytes ran)).
 unfolding ran_bytes
 read-stop ran below = from_le_bytes-to_le_bytes_4 ran.stop below
 
-few-causes : (cause : Cause) → cause_number cause ≤ 2
-few-causes Opcode = omega arith
-few-causes (Vector byte) = omega arith
-
 few-stops : (ticks samples pictures : ℕ) (stop : Option Stop) → (ran_of ticks samples pictures stop).stop ≤ 2
-few-stops ticks samples pictures None = omega arith
-few-stops ticks samples pictures (Some stop) = few-causes stop.cause
+few-stops ticks samples pictures stop = search rules
 
 pub record IsRead (ran : PacRan) : Type 0 where
   pub samples : (ran_read (ran_bytes ran)).samples ≡ ran.samples
@@ -47,15 +39,12 @@ ran-is-read roms block microseconds buffer new samples ran done =
     let told = tells roms block microseconds buffer new samples ran done in
     let outputs = outputs_given board microseconds in
     let bound = sounds-bounded board microseconds (time_of (board.state.asked + microseconds)) in
-    let room = done.room in
-    let few = pictures-bounded board microseconds (omega (arith, room)) in
-    let count = told.count in
-    let shown = told.pictures in
+    let few = pictures-bounded board microseconds (omega arith) in
     let stops : ran.stop ≤ 2 =
     subst (λ n. n ≤ 2) (sym (ap (λ (ran : PacRan). ran.stop) done.ran_is))
     (few-stops (run_ticks board microseconds) (sound_count outputs) (picture_count outputs) (course board microseconds).stop) in
     record {
-      samples = read-samples ran (omega (arith, bound, room, count));
-      pictures = read-pictures ran (omega (arith, few, shown));
+      samples = read-samples ran (omega (arith, bound));
+      pictures = read-pictures ran (omega (arith, few));
       stop = read-stop ran (omega (arith, stops));
     }

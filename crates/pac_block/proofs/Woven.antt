@@ -1,11 +1,10 @@
 -- What colour numbers pick of a vector, vectors that are woven, and the pixels that come of both.
-use Rattle.std.proofs.Common.{◌≡◌, ◌<◌, ◌+◌, ◌*◌, ◌/◌, ◌++◌, ℕ, suc, List, [], ◌∷◌}
-use Rattle.std.proofs.Common.{length, get_or, map, take, drop, slice_index, refl, sym, ap, ◌∙◌}
-use Rattle.std.proofs.Common.{append_assoc, replicate, w8, arith}
+use Rattle.std.proofs.Common.{◌≡◌, ◌<◌, ◌+◌, ◌++◌, ℕ, suc, List, [], ◌∷◌, length, get_or, map, take, drop, slice_index, refl, sym, ap, ◌∙◌}
+use Rattle.std.proofs.Common.{replicate, w8, arith}
 use Rattle.std.specs.List.{flat_map, range_with_len}
 use Rattle.std.proofs.lemmas.List.{get_or-map, length-map, ext_get_or}
 use Rattle.std.proofs.lemmas.Simd.{Each1-from_get_or, SwzOk, SwzOk-from_below, swz_l, length-swz_l, get_or-swz_l_below, pick_l_whole}
-use Rattle.std.proofs.lemmas.Grind.{flat_map-append}
+use Rattle.std.proofs.lemmas.Grind.{flat_map-append, common_steps}
 use Rattle.std.proofs.Math.Seq.{take-add}
 use lib.Lanes.{pick_l}
 use Rattle.pac_num.proofs.Tabulated.{get_or-tabulate}
@@ -23,12 +22,7 @@ pub picked-is : (table numbers : List ℕ) → length numbers ≡ 16 → ((k : �
     → swz_l w8 16 table 0 numbers ≡ map (λ number. slice_index table number) numbers
 picked-is table numbers long below =
     ext_get_or 0 _ _ (length-swz_l w8 16 table 0 numbers ∙ sym (length-map numbers (λ number. slice_index table number))) (λ k inside.
-    let within : k < length numbers = omega (arith, length-swz_l w8 16 table 0 numbers, inside) in
-    let small : k < 16 = omega (arith, within, long) in
-    let row : 16 * ((0 + k) / 16) ≡ 0 = omega (arith, small) in
-    get_or-swz_l_below w8 16 table 0 numbers k within (below k small)
-    ∙ (ap (λ place. get_or table place 0) (omega (arith, row))
-    ∙ sym (get_or-map (λ number. slice_index table number) numbers k 0 0 within)))
+    grind (arith, get_or-map, get_or-swz_l_below, length-swz_l))
 
 -- ---- what is woven: two vectors lane by lane, in two halves
 
@@ -77,16 +71,7 @@ pub four-parts : (at : ℕ) (old one two three four a b c d : List ℕ) → take
     → take (at + 16 + 16) two ≡ take (at + 16) one ++ b → take (at + 32 + 16) three ≡ take (at + 32) two ++ c
     → take (at + 48 + 16) four ≡ take (at + 48) three ++ d
     → take (at + 64) four ≡ take at old ++ (a ++ (b ++ (c ++ d)))
-four-parts at old one two three four a b c d first second third fourth =
-    let head = take at old in
-    let two_is : take (at + 32) two ≡ (head ++ a) ++ b =
-    ap (λ place. take place two) (omega arith) ∙ (second ∙ ap (λ part. part ++ b) first) in
-    let three_is : take (at + 48) three ≡ ((head ++ a) ++ b) ++ c =
-    ap (λ place. take place three) (omega arith) ∙ (third ∙ ap (λ part. part ++ c) two_is) in
-    ap (λ place. take place four) (omega arith)
-    ∙ (fourth ∙ (ap (λ part. part ++ d) three_is
-    ∙ (append_assoc ((head ++ a) ++ b) c d
-    ∙ (append_assoc (head ++ a) b (c ++ d) ∙ append_assoc head a (b ++ (c ++ d))))))
+four-parts at old one two three four a b c d first second third fourth = grind (arith, common_steps)
 
 -- sixteen elements more
 pub sixteen-more : {Y : Type 0} (f : ℕ → List Y) (xs : List ℕ) (at : ℕ)

@@ -35,7 +35,8 @@ pub fn reset(block: &mut PacBoard) -> Result<(), HostFault>
 
 /// Lets some inputs go, and holds others then.
 pub fn hold(block: &mut PacBoard, set: Inputs, clear: Inputs) -> Result<(), HostFault>
-    ensures { host.Becomes (host.board_holding (mask set) (mask clear)) block.old.bytes result block.new.bytes }
+    ensures { host.Becomes (host.board_holding (mask set) (mask clear)) block.old.bytes result
+        block.new.bytes }
 {
     let front = holding_front(block, set, clear)?;
     put_front(&front, &mut block.bytes);

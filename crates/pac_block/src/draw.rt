@@ -1,6 +1,7 @@
 //! The picture of a block, in bytes of red, green, blue and opacity.
 
-ghost use Rattle.std.specs.Prelude.{◌≡◌, ◌<◌, ◌≤◌, ◌+◌, ◌*◌, ◌++◌, length, take, slice_index, EachIndex};
+ghost use Rattle.std.specs.Prelude.{◌≡◌, ◌<◌, ◌≤◌, ◌+◌, ◌*◌, ◌++◌, length, take, slice_index};
+ghost use Rattle.std.specs.Prelude.{EachIndex};
 ghost use Rattle.std.specs.List.{flat_map};
 ghost use Rattle.pac_board.specs.PictureState.{IsPicture};
 ghost use Rattle.pac_board.specs.Tiles as tile;

@@ -1,7 +1,8 @@
 //! Laws of a host's calls on a block.
 
 ghost use Rattle.pac_block.specs.Films.{AllFramesAreDone, HostsPlayTheFilm};
-ghost use Rattle.pac_block.specs.HostLaws.{BlocksAreOneBoard, HostTimeCanBeCut, OneStepAtMost, RoomIsBounded, StopsAreMetAgain};
+ghost use Rattle.pac_block.specs.HostLaws.{BlocksAreOneBoard, HostTimeCanBeCut, OneStepAtMost};
+ghost use Rattle.pac_block.specs.HostLaws.{RoomIsBounded, StopsAreMetAgain};
 ghost use Rattle.pac_block.specs.RoomLaws.{RoomIsEnough};
 
 use pac_board::laws::time_can_be_cut;

@@ -4,7 +4,8 @@ ghost use Rattle.pac_board.specs.Fields.{state_of, AreBoardFields};
 ghost use Rattle.pac_board.specs.State.{BoardState, passed_lines};
 ghost use Rattle.pac_board.specs.Tiles as tile;
 ghost use Rattle.pac_block.specs.Host as host;
-ghost use Rattle.pac_block.specs.Passed.{picture_offset, recomposed_state, state_with_lines, upgraded_state};
+ghost use Rattle.pac_block.specs.Passed.{picture_offset, recomposed_state, state_with_lines};
+ghost use Rattle.pac_block.specs.Passed.{upgraded_state};
 ghost use Rattle.pac_state.specs.Block.{block_text};
 ghost use Rattle.pac_state.specs.Files.{IsState};
 ghost use Rattle.std.specs.Prelude.{◌≡◌, ◌<◌, ◌≤◌, ◌+◌, ◌*◌, ◌++◌, length, take, drop};
@@ -36,7 +37,8 @@ fn passed(time: u64) -> u8
 /// Writes line y of the picture in a block.
 fn put_line(block: &mut [u8; 67_756], y: u8, line: &[u8; WIDTH])
     requires { y < tile.height }
-    ensures { block.new ≡ take (picture_offset y) block.old ++ line.now ++ drop (picture_offset y + tile.width) block.old }
+    ensures { block.new ≡ take (picture_offset y) block.old ++ line.now
+        ++ drop (picture_offset y + tile.width) block.old }
 {
     let at = PICTURE + WIDTH * usize::from(y);
     block[at..at + WIDTH].copy_from_slice(line);
@@ -61,7 +63,8 @@ fn compose_passed(fields: &Fields, roms: &[u8], block: &mut PacBoard)
     requires roms { length roms.now ≡ host.roms_size }
     requires in_range { AreBoardFields fields.now }
     requires text { block.old.bytes ≡ block_text (state_of fields.now) }
-    ensures { block.new.bytes ≡ block_text (recomposed_state (host.set_of_roms roms.now) (state_of fields.now)) }
+    ensures { block.new.bytes ≡ block_text
+        (recomposed_state (host.set_of_roms roms.now) (state_of fields.now)) }
 {
     fields_have_states(fields);
     let graphics = graphics_of(roms);
@@ -81,7 +84,8 @@ pub(crate) fn bring_up(version: u16, fields: &Fields, roms: &[u8], block: &mut P
     requires roms { length roms.now ≡ host.roms_size }
     requires in_range { AreBoardFields fields.now }
     requires text { block.old.bytes ≡ block_text (state_of fields.now) }
-    ensures { block.new.bytes ≡ block_text (upgraded_state (host.set_of_roms roms.now) version (state_of fields.now)) }
+    ensures { block.new.bytes ≡ block_text (upgraded_state (host.set_of_roms roms.now) version
+        (state_of fields.now)) }
 {
     if version == 1 {
         compose_passed(fields, roms, block);

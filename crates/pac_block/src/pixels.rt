@@ -1,6 +1,7 @@
 //! Sixteen pixels at a time: what colour numbers pick of a palette by vectors, and that woven into pixels.
 
-ghost use Rattle.std.specs.Prelude.{◌≡◌, ◌<◌, ◌≤◌, ◌+◌, ◌*◌, ◌++◌, ℕ, drop, length, map, reverse, slice_index, take};
+ghost use Rattle.std.specs.Prelude.{◌≡◌, ◌<◌, ◌≤◌, ◌+◌, ◌*◌, ◌++◌, ℕ, drop, length, map, reverse};
+ghost use Rattle.std.specs.Prelude.{slice_index, take};
 ghost use Rattle.std.specs.List.{flat_map};
 ghost use Rattle.pac_colour.specs.Colours.{numbers};
 ghost use Rattle.pac_board.specs.PictureState.{palette_of};
@@ -111,7 +112,8 @@ pub fn put_pixels(rgba: &mut [u8], at: usize, palette: &Channels, numbers: u8x16
     requires room { at + 64 ≤ length rgba.old }
     requires below { (k : ℕ) → k < 16 → slice_index numbers k < 16 }
     ensures size { length rgba.new ≡ length rgba.old }
-    ensures text { take (at + 64) rgba.new ≡ take at rgba.old ++ flat_map (host.opaque_pixel palette.now) numbers }
+    ensures text { take (at + 64) rgba.new
+        ≡ take at rgba.old ++ flat_map (host.opaque_pixel palette.now) numbers }
 {
     let red = picked(&palette.reds, numbers);
     let green = picked(&palette.greens, numbers);

@@ -23,7 +23,8 @@ impl Sounds<'_> {
     /// Writes a sample after the others, where there is room.
     #[inline]
     fn put(&mut self, sample: i16) -> Result<(), Refused>
-        ensures { IsOffer (by sounding_took sounding_refused) self.old (Sound sample) result self.new }
+        ensures { IsOffer (by sounding_took sounding_refused) self.old (Sound sample) result
+            self.new }
     {
         if self.taken >= self.samples.len() {
             return Err(Refused);

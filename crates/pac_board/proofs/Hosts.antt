@@ -32,11 +32,12 @@ use Rattle.pac_board.specs.Calls.{next_of}
 use Rattle.pac_board.specs.Calls.{outputs_given}
 use Rattle.pac_board.specs.Calls.{outputs_in, board_after_step}
 use Rattle.pac_board.specs.Calls.{with_due}
-use Rattle.pac_board.specs.Hosts.{Call, Exec, StepOnce, Advance, Offer, GoTo, GoOn, GoWatched, CountAsked, ForgetAsked, Reset, InputSet, InputClear}
+use Rattle.pac_board.specs.Hosts.{Call, Exec, StepOnce, Advance, Offer, GoTo, GoOn, CountAsked, ForgetAsked, Reset, InputSet, InputClear}
 use Rattle.pac_board.specs.Hosts.{Snapshot, Restore, PutFields, PutRoms, HostedBoard}
-use Rattle.pac_board.specs.Hosts.{run_took, refused_took, step_took, offer_took, way_took, watched_took, IsCall, acts_of, stays_within, steps_between}
-use Rattle.pac_board.specs.Hosts.{AreCalls, acts_over, goes_back, given_over, history, CallsAreOfTheHistory, ListsAreCut, RestoresGiveAgain}
-use Rattle.pac_board.specs.Roads.{GoesWatching}
+use Rattle.pac_board.specs.Hosts.{run_took, refused_took, step_took, offer_took, way_took, until_took}
+use Rattle.pac_board.specs.Hosts.{IsCall, AreCalls, acts_of, acts_over, goes_back, stays_within, steps_between}
+use Rattle.pac_board.specs.Hosts.{given_over, history, CallsAreOfTheHistory, ListsAreCut, RestoresGiveAgain}
+use Rattle.pac_board.specs.Roads.{GoesUntil}
 use Rattle.pac_machine.specs.declared.watch.Access.{Access}
 use Rattle.pac_board.specs.Turns.{GoesTo, way, way_at}
 
@@ -293,13 +294,13 @@ module _ {S : Type 0} (to : Giving S) where
       (ap (λ (b : BoardValue). b.state.now) goes.board)
       (ap (λ due. due ++ (way_at old limit goes.steps).outputs) nothing ∙ goes.cut.parts)
 
-  watched-acts : {E : Type 0} (old : BoardValue) (limit : ℕ) (stops : Option (List ℕ)) (met : Option Access) (sink : S)
+  until-acts : {E : Type 0} (old : BoardValue) (limit : ℕ) (stops : Option (List ℕ)) (met : Option Access) (sink : S)
       (answer : Result (Option Stop) E) (new : BoardValue) (later : S)
-      → (goes : GoesWatching to old limit stops met sink answer new later) → due_outputs old ≡ []
-      → IsActed old (steps_on old.state.now new.state.now) (watched_took to old limit stops met sink answer new later goes) new
-  watched-acts {E} old limit stops met sink (Ok stop) new later goes nothing =
+      → (goes : GoesUntil to old limit stops met sink answer new later) → due_outputs old ≡ []
+      → IsActed old (steps_on old.state.now new.state.now) (until_took to old limit stops met sink answer new later goes) new
+  until-acts {E} old limit stops met sink (Ok stop) new later goes nothing =
       way-acts {E = E} old goes.end sink (Ok stop) new later goes.gone nothing
-  watched-acts {E} old limit stops met sink (Err refusal) new later goes nothing =
+  until-acts {E} old limit stops met sink (Err refusal) new later goes nothing =
       way-acts {E = E} old limit sink (Err refusal) new later goes nothing
 
 -- ---- a host's calls
@@ -400,14 +401,10 @@ module _ (earlier : List BoardState) where
         let call = done.0 in
         with-kept old own _ _ _ taken new own_is done.2 call.taken_is
         (way-acts to old.board limit call.sink call.answer new.board call.later call.done done.1)
-    call-acts (GoOn limit stops) old own taken new own_is within done =
+    call-acts (GoOn limit stops met) old own taken new own_is within done =
         let call = done.0 in
         with-kept old own _ _ _ taken new own_is done.2 call.taken_is
-        (watched-acts to old.board limit stops None call.sink call.answer new.board call.later call.done done.1)
-    call-acts (GoWatched limit stops met) old own taken new own_is within done =
-        let call = done.0 in
-        with-kept old own _ _ _ taken new own_is done.2 call.taken_is
-        (watched-acts to old.board limit stops met call.sink call.answer new.board call.later call.done done.1)
+        (until-acts to old.board limit stops met call.sink call.answer new.board call.later call.done done.1)
     call-acts (CountAsked microseconds) old own taken new own_is within done =
         silent-acts old.board own own _ new _ _ taken done own_is refl (λ before. refl) (λ _. refl)
     call-acts (ForgetAsked most) old own taken new own_is within done =

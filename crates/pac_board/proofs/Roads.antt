@@ -19,7 +19,7 @@ use Rattle.pac_machine.specs.Stops.{is_stop}
 use Rattle.pac_machine.specs.StopsProofs.{PassesBy}
 use Rattle.pac_machine.proofs.Passing.{passes-more}
 use Rattle.pac_machine.proofs.Watched.{watched-first, watched-more}
-use Rattle.pac_board.specs.Roads.{IsHeld, HasGoneWatching, GoesWatching}
+use Rattle.pac_board.specs.Roads.{IsHeld, HasGoneUntil, GoesUntil}
 use Rattle.pac_board.specs.RoadsProofs.{BoardPasses, BoardWatched}
 use Rattle.pac_board.specs.Sinks.{TookAll}
 use Rattle.pac_board.specs.SinksLaws.{Giving}
@@ -79,7 +79,7 @@ module _ {Board : Type 0} (next : Moment Board → Next Board) (limit : ℕ) (ti
 -- one that meets a stop, or has no time left, ends at its limit
 pub gone-to-limit : {S : Type 0} {took : S → Output → S → Type 0} {start : BoardValue} {limit : ℕ} {stops : Option (List ℕ)} {sink : S}
     {stop : Option Stop} {new : BoardValue} {later : S} (met : Option Access) → HasGone took start limit sink stop new later
-    → HasGoneWatching took start limit stops met sink stop new later
+    → HasGoneUntil took start limit stops met sink stop new later
 gone-to-limit {limit = limit} met gone =
     record { end = limit; within = omega arith; some = λ early. early; gone = gone; early = λ less. absurd (omega arith) }
 
@@ -90,7 +90,8 @@ module _ {S : Type 0} {took : S → Output → S → Type 0} {start : BoardValue
       let w = way_at start limit under.steps in
       let time = ap (λ (b : BoardValue). b.state.now.time) under.board_is in
       let going = open-goes-on limit w under.open_yet (omega arith) in
-      let same = walk-sooner (step (by_view start.set)) limit (step-timely (by_view start.set)) start.state.now under.steps going under.steps
+      let same =
+      walk-sooner (step (by_view start.set)) limit (step-timely (by_view start.set)) start.state.now under.steps going under.steps
       (omega arith) in
       let there = ap (λ (v : Walk _). v.now.time) same in
       subst (λ t. HasGone took start t sink None board taker) (sym time)
@@ -101,10 +102,10 @@ module _ {S : Type 0} {took : S → Output → S → Type 0} {start : BoardValue
 
   -- one that is held there, or has no time left, ends there
   gone-there : (stops : Option (List ℕ)) (met : Option Access) → start.state.now.time < board.state.now.time
-      → IsHeld stops board.state.now.time met None board → HasGoneWatching took start limit stops met sink None board taker
+      → IsHeld stops board.state.now.time met None board → HasGoneUntil took start limit stops met sink None board taker
   gone-there stops met later held = here (nat_lt board.state.now.time limit) refl
     where
-      here : (b : Bool) → nat_lt board.state.now.time limit ≡ b → HasGoneWatching took start limit stops met sink None board taker
+      here : (b : Bool) → nat_lt board.state.now.time limit ≡ b → HasGoneUntil took start limit stops met sink None board taker
       here true e =
           let early : board.state.now.time < limit = grind (arith, nat_tests) in
           record {
@@ -118,20 +119,20 @@ module _ {S : Type 0} {took : S → Output → S → Type 0} {start : BoardValue
 
   -- one that stands where it is to stop
   pub gone-to-stop : (stops : Option (List ℕ)) (met : Option Access) → met ≡ None → start.state.now.time < board.state.now.time
-      → is_stop stops board.state.now.regs.pc ≡ true → HasGoneWatching took start limit stops met sink None board taker
+      → is_stop stops board.state.now.regs.pc ≡ true → HasGoneUntil took start limit stops met sink None board taker
   gone-to-stop stops met none later stands =
-      subst (λ (met : Option Access). HasGoneWatching took start limit stops met sink None board taker) (sym none)
+      subst (λ (met : Option Access). HasGoneUntil took start limit stops met sink None board taker) (sym none)
       (gone-there stops None later (record { none = refl; time_is = refl; here = stands }))
 
   -- one whose last step did something at an address that is watched
   pub gone-to-access : (stops : Option (List ℕ)) (met : Option Access) → is_some met ≡ true
-      → start.state.now.time < board.state.now.time → HasGoneWatching took start limit stops met sink None board taker
+      → start.state.now.time < board.state.now.time → HasGoneUntil took start limit stops met sink None board taker
   gone-to-access stops None some later = not-both (sym some)
   gone-to-access stops (Some access) some later = gone-there stops (Some access) later (refl, refl)
 
 -- where nothing is watched and there are no such addresses, it ends at its limit alone
 gone-free : {S : Type 0} {took : S → Output → S → Type 0} {start : BoardValue} {limit : ℕ} {sink : S} {stop : Option Stop}
-    {new : BoardValue} {later : S} → HasGoneWatching took start limit None None sink stop new later
+    {new : BoardValue} {later : S} → HasGoneUntil took start limit None None sink stop new later
     → HasGone took start limit sink stop new later
 gone-free {S} {took} {start} {limit} {sink} {stop} {new} {later} gone = here (nat_lt gone.end limit) refl
   where
@@ -142,16 +143,18 @@ gone-free {S} {took} {start} {limit} {sink} {stop} {new} {later} gone = here (na
         let same : gone.end ≡ limit = grind (arith, nat_tests) in
         subst (λ end. HasGone took start end sink stop new later) same gone.gone
 
-pub goes-free : {S E : Type 0} (to : Giving S) (start : BoardValue) (limit : ℕ) (stops : Option (List ℕ)) (sink : S)
-    (answer : Result (Option Stop) E) (new : BoardValue) (later : S) → stops ≡ None
-    → GoesWatching to start limit stops None sink answer new later → GoesTo to start limit sink answer new later
-goes-free to start limit stops sink (Ok stop) new later none gone =
-    gone-free (subst (λ (stops : Option (List ℕ)). HasGoneWatching to.took start limit stops None sink stop new later) none gone)
-goes-free to start limit stops sink (Err refusal) new later none gone = gone
+pub goes-free : {S E : Type 0} (to : Giving S) (start : BoardValue) (limit : ℕ) (stops : Option (List ℕ)) (met : Option Access) (sink : S)
+    (answer : Result (Option Stop) E) (new : BoardValue) (later : S) → stops ≡ None → met ≡ None
+    → GoesUntil to start limit stops met sink answer new later → GoesTo to start limit sink answer new later
+goes-free to start limit stops met sink (Ok stop) new later none unmet gone =
+    gone-free
+    (subst (λ (stops : Option (List ℕ)). HasGoneUntil to.took start limit stops None sink stop new later) none
+    (subst (λ (met : Option Access). HasGoneUntil to.took start limit stops met sink stop new later) unmet gone))
+goes-free to start limit stops met sink (Err refusal) new later none unmet gone = gone
 
 -- ---- what its steps passed by
 
--- what a loop says of its steps: they are told, they pass by the addresses where they are to stop, and what they did at those that are watched
+-- what a loop says of its steps: they are told, they pass by the addresses where they are to stop, and what they did at watched ones
 pub record HasPassed (limit : ℕ) (stops marks : Option (List ℕ)) (old new : BoardValue) (met : Option Access)
     (first after : Option (List PastStep))
     : Type 0 where
@@ -168,8 +171,9 @@ met-nothing marks old new met steps none =
 
 -- a stretch after others
 pub passed-further : (old mid new : BoardValue) (limit : ℕ) (stops marks : Option (List ℕ)) {marks_there : Option (List ℕ)}
-    {met : Option Access} {told between after : Option (List PastStep)} → mid.set ≡ old.set → marks_there ≡ marks → IsTold old limit mid told between
-    → PassesBy (step (by_view old.set)) stops old.state.now (mid.state.now.steps + 1) → BoardWatched marks old mid None
+    {met : Option Access} {told between after : Option (List PastStep)} → mid.set ≡ old.set → marks_there ≡ marks
+    → IsTold old limit mid told between → PassesBy (step (by_view old.set)) stops old.state.now (mid.state.now.steps + 1)
+    → BoardWatched marks old mid None
     → IsTold mid limit new between after → BoardPasses stops mid new → BoardWatched marks_there mid new met
     → HasPassed limit stops marks old new met told after
 passed-further old mid new limit stops marks {marks_there} {met} {told} {between} {after} set same one passed quiet two passes

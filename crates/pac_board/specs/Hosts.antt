@@ -28,7 +28,7 @@ use Rattle.pac_board.specs.SinksLaws.{Giving}
 use Rattle.pac_board.specs.State.{BoardValue, BoardState, due_outputs, board_after_reset, board_with_inputs}
 use Rattle.pac_board.specs.StateLaws.{restored_board}
 use Rattle.pac_board.specs.StateLaws.{with_more_asked, with_asked_at_most}
-use Rattle.pac_board.specs.Roads.{GoesUntil, GoesWatching}
+use Rattle.pac_board.specs.Roads.{GoesUntil}
 use Rattle.pac_machine.specs.declared.watch.Access.{Access}
 use Rattle.pac_board.specs.Turns.{GoesTo, way}
 use Rattle.pac_board.specs.CallsLaws.{Executes, StepsOnce, Offers, Advances, IsOfferRefused, IsStepRefused}
@@ -42,10 +42,8 @@ pub data Call : Type 0 where
   Advance : Call
   Offer : Call
   GoTo : (limit : ℕ) → Call
-  -- `go`, which may stop before an address of a map
-  GoOn : (limit : ℕ) → (stops : Option (List ℕ)) → Call
-  -- `go_watched`, which may also stop after a step that did something at an address that is watched
-  GoWatched : (limit : ℕ) → (stops : Option (List ℕ)) → (met : Option Access) → Call
+  -- `go`, which may stop before an address of a map, or after a step that did something at an address that is watched
+  GoOn : (limit : ℕ) → (stops : Option (List ℕ)) → (met : Option Access) → Call
   CountAsked : (microseconds : ℕ) → Call
   ForgetAsked : (most : ℕ) → Call
   Reset : Call
@@ -93,11 +91,11 @@ abbrev pub way_took : {S E : Type 0} (to : Giving S) (old : BoardValue) (limit :
 way_took to old limit sink (Ok stop) new later goes = (way old limit).outputs
 way_took to old limit sink (Err refusal) new later goes = goes.cut.taken
 
-abbrev pub watched_took : {S E : Type 0} (to : Giving S) (old : BoardValue) (limit : ℕ) (stops : Option (List ℕ)) (met : Option Access)
-    (sink : S) (answer : Result (Option Stop) E) (new : BoardValue) (later : S) → GoesWatching to old limit stops met sink answer new later
+abbrev pub until_took : {S E : Type 0} (to : Giving S) (old : BoardValue) (limit : ℕ) (stops : Option (List ℕ)) (met : Option Access)
+    (sink : S) (answer : Result (Option Stop) E) (new : BoardValue) (later : S) → GoesUntil to old limit stops met sink answer new later
     → List Output
-watched_took to old limit stops met sink (Ok stop) new later goes = (way old goes.end).outputs
-watched_took to old limit stops met sink (Err refusal) new later goes = goes.cut.taken
+until_took to old limit stops met sink (Ok stop) new later goes = (way old goes.end).outputs
+until_took to old limit stops met sink (Err refusal) new later goes = goes.cut.taken
 
 -- ---- calls
 
@@ -134,15 +132,10 @@ IsCall to (GoTo limit) old taken new =
     IsCallAnswered {A = Result (Option Stop) sinks.Refused} (λ sink answer later. GoesTo to old.board limit sink answer new.board later)
     (λ sink answer later done. way_took to old.board limit sink answer new.board later done) taken
     × (due_outputs old.board ≡ []) × (new.kept ≡ old.kept)
-IsCall to (GoOn limit stops) old taken new =
+IsCall to (GoOn limit stops met) old taken new =
     IsCallAnswered {A = Result (Option Stop) sinks.Refused}
-    (λ sink answer later. GoesUntil to old.board limit stops sink answer new.board later)
-    (λ sink answer later done. watched_took to old.board limit stops None sink answer new.board later done) taken
-    × (due_outputs old.board ≡ []) × (new.kept ≡ old.kept)
-IsCall to (GoWatched limit stops met) old taken new =
-    IsCallAnswered {A = Result (Option Stop) sinks.Refused}
-    (λ sink answer later. GoesWatching to old.board limit stops met sink answer new.board later)
-    (λ sink answer later done. watched_took to old.board limit stops met sink answer new.board later done) taken
+    (λ sink answer later. GoesUntil to old.board limit stops met sink answer new.board later)
+    (λ sink answer later done. until_took to old.board limit stops met sink answer new.board later done) taken
     × (due_outputs old.board ≡ []) × (new.kept ≡ old.kept)
 IsCall to (CountAsked microseconds) old taken new =
     IsSilent (record { board = with_more_asked old.board microseconds; kept = old.kept }) taken new
@@ -170,8 +163,7 @@ acts_of older StepOnce steps = replicate steps StepOn
 acts_of older Advance steps = replicate steps StepOn
 acts_of older Offer steps = []
 acts_of older (GoTo limit) steps = replicate steps StepOn
-acts_of older (GoOn limit stops) steps = replicate steps StepOn
-acts_of older (GoWatched limit stops met) steps = replicate steps StepOn
+acts_of older (GoOn limit stops met) steps = replicate steps StepOn
 acts_of older (CountAsked microseconds) steps = []
 acts_of older (ForgetAsked most) steps = []
 acts_of older Reset steps = ResetBoard ∷ []

@@ -21,7 +21,7 @@ IsHeld stops time None stop new = IsAtStop stops time stop new
 IsHeld stops time (Some access) stop new = (stop ≡ None) × (new.state.now.time ≡ time)
 
 -- The walk came to its end: the limit, or an earlier time, at which it is to stop. A walk with any time before it does one step at least.
-pub record HasGoneWatching {S : Type 0} (took : S → Output → S → Type 0) (old : BoardValue) (limit : ℕ) (stops : Option (List ℕ))
+pub record HasGoneUntil {S : Type 0} (took : S → Output → S → Type 0) (old : BoardValue) (limit : ℕ) (stops : Option (List ℕ))
     (met : Option Access) (sink : S) (stop : Option Stop) (new : BoardValue) (later : S)
     : Type 0 where
   pub end : ℕ
@@ -30,12 +30,7 @@ pub record HasGoneWatching {S : Type 0} (took : S → Output → S → Type 0) (
   pub gone : HasGone took old end sink stop new later
   pub early : end < limit → IsHeld stops end met stop new
 
-abbrev pub GoesWatching : {S E : Type 0} → Giving S → BoardValue → ℕ → Option (List ℕ) → Option Access → S → Result (Option Stop) E
+abbrev pub GoesUntil : {S E : Type 0} → Giving S → BoardValue → ℕ → Option (List ℕ) → Option Access → S → Result (Option Stop) E
     → BoardValue → S → Type 0
-GoesWatching to old limit stops met sink (Ok stop) new later = HasGoneWatching to.took old limit stops met sink stop new later
-GoesWatching to old limit stops met sink (Err refusal) new later = IsWayRefused to old limit sink new later
-
--- ---- the same, where nothing is watched
-
-abbrev pub GoesUntil : {S E : Type 0} → Giving S → BoardValue → ℕ → Option (List ℕ) → S → Result (Option Stop) E → BoardValue → S → Type 0
-GoesUntil to old limit stops sink answer new later = GoesWatching to old limit stops None sink answer new later
+GoesUntil to old limit stops met sink (Ok stop) new later = HasGoneUntil to.took old limit stops met sink stop new later
+GoesUntil to old limit stops met sink (Err refusal) new later = IsWayRefused to old limit sink new later

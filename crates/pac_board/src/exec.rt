@@ -8,7 +8,7 @@ ghost use Rattle.pac_board.specs.CallsLaws.{Offers, IsAdvanced, Advances, StepsO
 ghost use Rattle.pac_board.specs.SinksLaws.{by};
 ghost use Rattle.pac_board.specs.TurnsProofs.{Turns};
 ghost use Rattle.pac_board.specs.Turns.{GoesTo};
-ghost use Rattle.pac_board.specs.Roads.{GoesUntil, GoesWatching};
+ghost use Rattle.pac_board.specs.Roads.{GoesUntil};
 ghost use Rattle.pac_board.specs.RoadsProofs.{BoardPasses, BoardWatched};
 ghost use Rattle.pac_board.specs.Stretches.{IsStretched, HasBatch, Stretches, IsTold};
 ghost use Rattle.pac_machine.specs.Bursts.{next_sample};
@@ -120,8 +120,8 @@ impl Board {
     }
 
     /// Does steps of a board with nothing due up to the end of the scan's line, to a limit before it, or to a stop, or some of these; but the
-    /// first, none that begins where it is to stop; and none after one that met a write that is watched. Answers whether a stop came, how
-    /// many samples those before the last gave, and what the last gives, which isn't due yet. Each step is told.
+    /// first, none that begins where it is to stop; and none after one that did something at a watched address. Answers whether a stop came,
+    /// how many samples those before the last gave, and what the last gives, which isn't due yet. Each step is told.
     #[inline(always)]
     fn make_stretch<W: Watch>(
         &mut self,
@@ -228,7 +228,7 @@ impl Board {
     }
 
     /// Does steps while the time is before a limit, up to a stop, or before one that begins where it is to stop, unless it is the first, or
-    /// up to one that met a write that is watched, and offers what each gives. Each step is told.
+    /// up to one that did something at a watched address, and offers what each gives. Each step is told.
     #[inline(always)]
     fn run<S: Sink, W: Watch>(
         &mut self,
@@ -242,7 +242,7 @@ impl Board {
         requires nothing { due_outputs self.old ≡ [] }
         requires made { self.old.made < 2 ^ 64 }
         requires unmet { W.met watch.old ≡ None }
-        ensures made { GoesWatching (by S.took S.refused) self.old limit stops.now (W.met watch.new) sink.old result self.new sink.new }
+        ensures made { GoesUntil (by S.took S.refused) self.old limit stops.now (W.met watch.new) sink.old result self.new sink.new }
         ensures told { IsTold self.old limit self.new told.old told.new }
         ensures passes { BoardPasses stops.now self.old self.new }
         ensures watched { BoardWatched (W.marks watch.old) self.old self.new (W.met watch.new) }
@@ -261,17 +261,24 @@ impl Board {
         Ok(None)
     }
 
-    /// Does steps up to a limit or to a stop, and none is told. The silent trail is forgotten and not dropped, for one that tells would give memory back, and
-    /// what calls for that can't be linked where a host has no heap.
+    /// Does steps up to a limit or to a stop, where nothing is watched, and none is told. The silent trail is forgotten and not dropped, for
+    /// one that tells would give memory back, and what calls for that can't be linked where a host has no heap.
     #[inline(always)]
-    fn run_untold<S: Sink>(&mut self, limit: u64, sink: &mut S) -> Result<Option<Stop>, Refused>
+    fn run_untold<S: Sink, W: Watch>(
+        &mut self,
+        limit: u64,
+        watch: &mut W,
+        sink: &mut S,
+    ) -> Result<Option<Stop>, Refused>
         requires limit { limit ≤ latest }
         requires nothing { due_outputs self.old ≡ [] }
         requires made { self.old.made < 2 ^ 64 }
+        requires unwatched { W.marks watch.old ≡ None }
+        requires unmet { W.met watch.old ≡ None }
         ensures { GoesTo (by S.took S.refused) self.old limit sink.old result self.new sink.new }
     {
         let mut nobody = Trail::silent();
-        let ran = self.run(limit, &Stops::none(), &mut nobody, &mut Unwatched, sink);
+        let ran = self.run(limit, &Stops::none(), &mut nobody, watch, sink);
         forget(nobody);
         ran
     }
@@ -284,30 +291,12 @@ impl Board {
     {
         // (its bound, that of a u64, is what `run` asks of the count)
         self.made();
-        self.run_untold(limit, sink)
+        self.run_untold(limit, &mut Unwatched, sink)
     }
 
-    /// Does steps while the time is before a limit, up to a stop, or before one that begins where it is to stop, unless it is the first, and
-    /// offers what each gives. Each step is told. Nothing is due before.
-    pub fn go<S: Sink>(
-        &mut self,
-        limit: u64,
-        stops: &Stops<'_>,
-        told: &mut Trail,
-        sink: &mut S,
-    ) -> Result<Option<Stop>, Refused>
-        requires limit { limit ≤ latest }
-        requires nothing { due_outputs self.old ≡ [] }
-        ensures made { GoesUntil (by S.took S.refused) self.old limit stops.now sink.old result self.new sink.new }
-        ensures told { IsTold self.old limit self.new told.old told.new }
-        ensures passes { BoardPasses stops.now self.old self.new }
-    {
-        self.made();
-        self.run(limit, stops, told, &mut Unwatched, sink)
-    }
-
-    /// As `go`, and none is done after a step that met a write that is watched.
-    pub fn go_watched<S: Sink, W: Watch>(
+    /// Does steps while the time is before a limit, up to a stop, or before one that begins where it is to stop, unless it is the first, or up
+    /// to one that did something at a watched address, and offers what each gives. Each step is told. Nothing is due before.
+    pub fn go<S: Sink, W: Watch>(
         &mut self,
         limit: u64,
         stops: &Stops<'_>,
@@ -318,7 +307,7 @@ impl Board {
         requires limit { limit ≤ latest }
         requires nothing { due_outputs self.old ≡ [] }
         requires unmet { W.met watch.old ≡ None }
-        ensures made { GoesWatching (by S.took S.refused) self.old limit stops.now (W.met watch.new) sink.old result self.new sink.new }
+        ensures made { GoesUntil (by S.took S.refused) self.old limit stops.now (W.met watch.new) sink.old result self.new sink.new }
         ensures told { IsTold self.old limit self.new told.old told.new }
         ensures passes { BoardPasses stops.now self.old self.new }
         ensures watched { BoardWatched (W.marks watch.old) self.old self.new (W.met watch.new) }
@@ -341,7 +330,7 @@ impl Board {
         if self.offer(sink).is_err() {
             return Err(Fault::Refused);
         }
-        match self.run_untold(384 * asked / 125, sink) {
+        match self.run_untold(384 * asked / 125, &mut Unwatched, sink) {
             Ok(stop) => Ok(Ran {
                 ticks: self.time() - begun,
                 stop,

@@ -180,7 +180,7 @@ module _ {S E : Type 0} (to : Giving S) (old : CourseValue) (board new : BoardVa
     (result : Result (Option Stop) E) where
   -- to the end that a board has come to, or to its limit
   made-so : (result : Result (Option Stop) E) → old.board.state.now.time < until → until ≤ frame_end old
-      → old.board.state.now.time < end_of old → IsClosed old board new → GoesUntil to old.board until stops sink result board later
+      → old.board.state.now.time < end_of old → IsClosed old board new → GoesUntil to old.board until stops None sink result board later
       → PlaysInFrame to old sink result (record old { board = new }) later
   made-so (Ok stop) soon within early closed goes =
       told-answered to old board new sink later goes.end (omega (arith, goes.within)) early closed {E = E} (Ok stop) (goes.some soon)
@@ -193,7 +193,7 @@ module _ {S E : Type 0} (to : Giving S) (old : CourseValue) (board new : BoardVa
   tries-of result made = search rules
 
   pub gone-told : old.board.state.now.time < end_of old → old.board.state.now.time < limit → IsClosed old board new
-      → GoesUntil to old.board until stops sink result board later
+      → GoesUntil to old.board until stops None sink result board later
       → IsNoted (step (by_view old.board.set)) until old.board.state.now board.state.now told after
       → PassesBy (step (by_view old.board.set)) stops old.board.state.now board.state.now.steps
       → GoesTold to old limit stops told sink result (record old { board = new }) after later

@@ -8,7 +8,7 @@ ghost use Rattle.pac_inputs.specs.Stretches.{most_frames, total_frames};
 ghost use Rattle.pac_board_course.specs.Frames.{GoesTold};
 
 use crate::course::hold;
-use pac_board::{Board, FRAME_TICKS, Refused, Sink, Stop, Stops, Trail};
+use pac_board::{Board, FRAME_TICKS, Refused, Sink, Stop, Stops, Trail, Unwatched};
 use pac_inputs::Script;
 
 /// Does the steps of a script's run on a board that begin before a limit, and before the blank of the frame under way, after which the
@@ -35,7 +35,7 @@ pub fn go<S: Sink>(
 {
     let frame = board.time() / FRAME_TICKS + 1;
     let blank = FRAME_TICKS * frame;
-    let played = board.go(limit.min(blank), stops, told, sink);
+    let played = board.go(limit.min(blank), stops, told, &mut Unwatched, sink);
     if board.time() >= blank {
         hold(board, script.held((frame + 1).saturating_sub(gone) as u32));
     }

@@ -1,9 +1,10 @@
 -- The steps that a session's board makes: no more than lead to the furthest index, and those that lines have it make once more.
-use Rattle.std.proofs.Common.{◌≡◌, ℕ, zero, suc, ◌+◌, ◌-◌, ◌^◌, ◌<◌, ◌≤◌, max, min, nat_lt, Bool, true, false, not, ◌||◌, get_or, set}
-use Rattle.std.proofs.Common.{Option, None, Some, Result, Ok, Err, List, [], ◌∷◌, ◌++◌, refl, sym, ap, subst, ◌∙◌, arith, rules}
-use Rattle.std.proofs.lemmas.Bool.Decides.{nat_tests}
+use Rattle.std.proofs.Common.{◌≡◌, ℕ, zero, suc, ◌+◌, ◌<◌, ◌≤◌, nat_lt, Bool, true, false, not, ◌||◌, get_or}
+use Rattle.std.proofs.Common.{Option, None, Some, Result, Ok, Err, List, [], ◌∷◌, ◌++◌, ap, ◌∙◌, arith, rules}
+use Rattle.std.proofs.lemmas.Bool.{cases_lt}
 use mathlib.Core.Logic.{inl, inr}
 use Rattle.pac_board.specs.SinksLaws.{Giving}
+use Rattle.pac_board.specs.Due.{Due}
 use Rattle.pac_board.specs.Step.{Moment}
 use Rattle.pac_board.specs.BoardView.{BoardView}
 use Rattle.pac_debug_text.specs.declared.command.Command.{Command}
@@ -12,16 +13,16 @@ use Rattle.pac_debug_text.specs.declared.command.NoCommand.{NoCommand}
 use Rattle.pac_debug_text.specs.Commands.{command_of}
 use Rattle.pac_debug_text.specs.Slots.{slot_index}
 use Rattle.pac_debug_session.specs.declared.motion.Motion.{Motion}
-use Rattle.pac_debug_session.specs.Motions.{has_met, rests, session_with_slot}
+use Rattle.pac_debug_session.specs.Motions.{has_met, moved_to, rests, session_with_slot}
 use Rattle.pac_debug_session.specs.Outcome.{Outcome}
 use Rattle.pac_debug_session.specs.Running.{goes_at}
 use Rattle.pac_debug_session.specs.RunningLaws.{whole_run}
 use Rattle.pac_debug_session.specs.SessionLaws.{AreSeen, IsSeen, IsSession}
 use Rattle.pac_debug_session.specs.Session.{SessionValue, has_breakpoint}
-use Rattle.pac_debug_session.proofs.Ends.{run-ends}
+use Rattle.pac_debug_session.proofs.Ends.{run-ends, whole-at-end}
+use Rattle.pac_debug_session.proofs.Slots.{seen-set}
 use Rattle.pac_debug_session.proofs.Indices.{open-up-to}
 use Rattle.pac_debug_session.proofs.Steppings.{all-seen-later}
-use Rattle.pac_debug_session.proofs.Travelled.{whole-at-end}
 use Rattle.pac_debug.specs.declared.answer.Answer.{Answer}
 use Rattle.pac_debug.specs.declared.line.CommandFault.{CommandFault}
 use Rattle.pac_debug.specs.declared.line.CommandFault.TheVariants as faults
@@ -57,19 +58,16 @@ record IsUnmoved (old new : SessionValue) : Type 0 where
   pub slots : new.slots ≡ old.slots
   pub made : new.made ≡ old.made
 
-stands-there : (old new : SessionValue) → Stands old → new.setting ≡ old.setting → new.furthest ≡ old.furthest
-    → new.index ≤ old.furthest → AreSeen old.furthest new.slots → Stands new
-stands-there old new stands setting furthest within seen = search rules
-
 unmoved : (again : ℕ → ℕ) (old new : SessionValue) → Stands old → IsUnmoved old new → Makes again old new
-unmoved again old new stands same = search rules
+unmoved again old new stands kept = search rules
 
--- along an equation
-like : (old new other : SessionValue) → new ≡ other → IsUnmoved old other → IsUnmoved old new
-like old new other is same = subst (IsUnmoved old) (sym is) same
+-- so it is where nothing else changed than this
+still : (again : ℕ → ℕ) (old new : SessionValue) (breakpoints : List ℕ) (due : Due) (replayed : ℕ) → Stands old
+    → new ≡ record old { breakpoints = breakpoints; due = due; replayed = replayed } → Makes again old new
+still again old new breakpoints due replayed stands is = grind (arith, unmoved)
 
-unchanged : (s : SessionValue) → IsUnmoved s s
-unchanged s = record { setting = refl; index = refl; furthest = refl; slots = refl; made = refl }
+same : (again : ℕ → ℕ) (old new : SessionValue) → Stands old → new ≡ old → Makes again old new
+same again old new stands is = still again old new old.breakpoints old.due old.replayed stands is
 
 -- ---- onwards
 
@@ -80,22 +78,17 @@ going met goes e = search rules
 unrested : (s : SessionValue) (motion : Motion) (from index : ℕ) → rests s motion from index ≡ false → goes_at s.setting index ≡ true
 unrested s motion from index e = going (has_met s motion from index) (goes_at s.setting index) e
 
-module _ (again : ℕ → ℕ) (old new : SessionValue) (stands : Stands old) (after : old.index ≤ new.index)
-    (setting : new.setting ≡ old.setting) (far : new.furthest ≡ max old.furthest new.index) (slots : new.slots ≡ old.slots)
-    (counted : new.made ≡ min (2 ^ 64 - 1) (old.made + (new.index - old.index)))
-    (goes : (earlier : ℕ) → old.index ≤ earlier → earlier < new.index → goes_at old.setting earlier ≡ true)
-  where
-    goes-before : (earlier : ℕ) → earlier < new.furthest → (b : Bool) → nat_lt earlier old.furthest ≡ b
-        → goes_at old.setting earlier ≡ true
-    goes-before earlier less b e = search rules
+module _ (again : ℕ → ℕ) (old new : SessionValue) (due : Due) (replayed : ℕ) (stands : Stands old) (after : old.index ≤ new.index)
+    (is : new ≡ record (moved_to old new.index) { due = due; replayed = replayed })
+    (goes : (earlier : ℕ) → old.index ≤ earlier → earlier < new.index → goes_at old.setting earlier ≡ true) where
+  goes-before : (earlier : ℕ) → earlier < new.furthest → (b : Bool) → nat_lt earlier old.furthest ≡ b
+      → goes_at old.setting earlier ≡ true
+  goes-before earlier less b e = search rules
 
-    onwards : Makes again old new
-    onwards = grind (arith, all-seen-later, goes-before)
+  onwards : Makes again old new
+  onwards = grind (arith, all-seen-later, goes-before)
 
 -- ---- commands that don't move on
-
-abbrev none : ℕ → ℕ
-none furthest = 0
 
 went-back : (old : SessionValue) (count : ℕ) (answer : Answer) (new : SessionValue) → Stands old → AnswersBack old count answer new
     → Makes (λ furthest. count + 4095) old new
@@ -107,50 +100,37 @@ seen-at furthest [] place all = tt
 seen-at furthest (first ∷ more) zero all = all.0
 seen-at furthest (first ∷ more) (suc place) all = seen-at furthest more place all.1
 
-seen-with : (furthest : ℕ) (slots : List (Option ℕ)) (place : ℕ) (mark : Option ℕ) → AreSeen furthest slots → IsSeen furthest mark
-    → AreSeen furthest (set slots place mark)
-seen-with furthest [] place mark all one = tt
-seen-with furthest (first ∷ more) zero mark all one = (one, all.1)
-seen-with furthest (first ∷ more) (suc place) mark all one = (all.0, seen-with furthest more place mark all.1 one)
-
 returned : (old : SessionValue) (kept : Option ℕ) (answer : Answer) (new : SessionValue) → Stands old → IsSeen old.furthest kept
     → AnswersReturn old kept answer new → Makes (λ furthest. furthest) old new
 returned old kept answer new stands seen came = search rules
 
-kept-there : (old new : SessionValue) (slot : ℕ) → Stands old → new ≡ session_with_slot old slot → Makes none old new
-kept-there old new slot stands is = grind (arith, seen-with)
+kept-there : (old new : SessionValue) (slot : ℕ) → Stands old → new ≡ session_with_slot old slot → Makes (λ furthest. 0) old new
+kept-there old new slot stands is = grind (arith, seen-set)
 
 set-there : (again : ℕ → ℕ) (old : SessionValue) (address : ℕ) (is_set : Bool) (answer : Answer) (new : SessionValue)
     → Stands old → SetsBreakpoint old address is_set answer new → Makes again old new
 set-there again old address is_set answer new stands done = search rules
 
-abbrev again-of : Command → ℕ → ℕ
-again-of command furthest = steps_again furthest (Some (Ok command))
-
 stays : (old : SessionValue) (command : Command) (answer : Answer) (new : SessionValue) → Stands old → Stays old command answer new
-    → Makes (again-of command) old new
+    → Makes (λ furthest. steps_again furthest (Some (Ok command))) old new
 stays old (commands.Back count) answer new stands done = went-back old count answer new stands done
 stays old (commands.Return slot) answer new stands done = grind (arith, returned, seen-at)
 stays old (commands.Keep slot) answer new stands done = kept-there old new (slot_index slot) stands done.1
 stays old (commands.Break at) answer new stands done = set-there _ old at (has_breakpoint old at) answer new stands done
-stays old (commands.Unbreak at) answer new stands done =
-    unmoved _ old new stands
-    (like old new _ done.1 (record { setting = refl; index = refl; furthest = refl; slots = refl; made = refl }))
-stays old commands.Regs answer new stands done = unmoved _ old new stands (like old new old done.1 (unchanged old))
-stays old (commands.Mem at count) answer new stands done = unmoved _ old new stands (like old new old done.1 (unchanged old))
-stays old (commands.Dis at count) answer new stands done = unmoved _ old new stands (like old new old done.1 (unchanged old))
-stays old (commands.History count) answer new stands done = unmoved _ old new stands (like old new old done.1 (unchanged old))
+stays old (commands.Unbreak at) answer new stands done = still _ old new _ _ _ stands done.1
+stays old commands.Regs answer new stands done = same _ old new stands done.1
+stays old (commands.Mem at count) answer new stands done = same _ old new stands done.1
+stays old (commands.Dis at count) answer new stands done = same _ old new stands done.1
+stays old (commands.History count) answer new stands done = same _ old new stands done.1
 stays old other answer new stands done = absurd done
 
 -- ---- a line
 
 performed : (old : SessionValue) (command : Command) (found : Option Motion) (answer : Answer) (new : SessionValue) → Stands old
-    → IsCommandPerformed takes_all old command found tt answer new tt → Makes (again-of command) old new
+    → IsCommandPerformed takes_all old command found tt answer new tt → Makes (λ furthest. steps_again furthest (Some (Ok command))) old new
 performed old command (Some motion) answer new stands moved =
     let gone = moved.travelled in
-    let is = gone.session in
-    onwards (again-of command) old new stands gone.rest.after (ap (λ (s : SessionValue). s.setting) is)
-    (ap (λ (s : SessionValue). s.furthest) is) (ap (λ (s : SessionValue). s.slots) is) (ap (λ (s : SessionValue). s.made) is)
+    onwards _ old new _ _ stands gone.rest.after gone.session
     (λ earlier from less. unrested old motion old.index earlier (gone.rest.none_before earlier from less))
 performed old command None answer new stands done = stays old command answer new stands done.0
 
@@ -161,25 +141,19 @@ apart again old new makes = record { stands = makes.stands; setting = makes.sett
 obeyed : (old : SessionValue) (asked : Result Command NoCommand) (answer : Answer) (new : SessionValue) → Stands old
     → IsCommandObeyed takes_all (session_without_due old) asked tt answer new tt
     → Makes (λ furthest. steps_again furthest (Some asked)) old new
-obeyed old asked answer new stands done = grind (arith, apart, like, performed, unmoved)
+obeyed old asked answer new stands done = grind (arith, apart, performed, same)
 
 told : (found : Option (Result Command NoCommand)) (old : SessionValue) (text : List ℕ) (new : SessionValue) → Stands old
     → TellsOfCommand found old text new → Makes (λ furthest. steps_again furthest found) old new
-told found old text new stands tells = grind (arith, like, obeyed, unchanged, unmoved)
+told found old text new stands tells = grind (arith, obeyed, same)
 
 held-up : (found : Option (Result Command NoCommand)) (old new : SessionValue) → Stands old → IsHeldUpAt found old new
     → Makes (λ furthest. steps_again furthest found) old new
 held-up None old new stands held = absurd held
-held-up (Some asked) old new stands (inl held) =
-    unmoved _ old new stands
-    (like old new _ held.session (record { setting = refl; index = refl; furthest = refl; slots = refl; made = refl }))
+held-up (Some asked) old new stands (inl held) = still _ old new _ _ _ stands held.session
 held-up (Some asked) old new stands (inr held) =
-    let is = held.session in
-    let most : new.furthest ≡ max old.furthest new.index = ap (λ (s : SessionValue). s.furthest) is in
-    onwards _ old new stands (omega (arith, held.index, held.fresh)) (ap (λ (s : SessionValue). s.setting) is) most
-    (ap (λ (s : SessionValue). s.slots) is) (ap (λ (s : SessionValue). s.made) is)
-    (λ earlier from less.
-    unrested old held.motion old.index earlier (held.restless earlier from (omega (arith, held.index, less))))
+    onwards _ old new _ _ stands (omega (arith, held.index, held.fresh, stands.within)) held.session
+    (λ earlier from less. unrested old held.motion old.index earlier (held.restless earlier from (omega (arith, held.index, less))))
 
 line-makes : (line : List ℕ) (answer : LineAnswer) (old : SessionValue) (text : List ℕ) (new : SessionValue) → Stands old
     → LeavesLine line answer old text new → Makes (λ furthest. steps_again furthest (command_of line)) old new
@@ -194,7 +168,7 @@ makes-on again more old mid new first rest = search rules
 
 lines-make : (lines : List (List ℕ)) (answers : List LineAnswer) (old : SessionValue) (texts : List (List ℕ)) (new : SessionValue)
     → Stands old → LeavesEach lines answers old texts new → Makes (λ furthest. all_steps_again furthest lines) old new
-lines-make [] [] old [] new stands leaves = unmoved _ old new stands (like old new old leaves (unchanged old))
+lines-make [] [] old [] new stands leaves = same _ old new stands leaves
 lines-make (line ∷ lines) (answer ∷ answers) old (text ∷ texts) new stands leaves =
     let first = line-makes line answer old text leaves.between stands leaves.before in
     let rest = lines-make lines answers leaves.between texts new first.stands leaves.after in grind (arith, makes-on)
@@ -207,17 +181,13 @@ unended goes e = search rules
 within-trace : (s : SessionValue) → Stands s → s.furthest ≤ (whole_run s.setting).now.steps
 within-trace s stands =
     let end = run-ends s.setting s.furthest in
-    let goes : (earlier : ℕ) → earlier < end.index → goes_at s.setting earlier ≡ true
-    = λ earlier less. before end.index earlier less end.least.none_before (nat_lt earlier s.furthest) refl in
+    let goes : (earlier : ℕ) → earlier < end.index → goes_at s.setting earlier ≡ true = λ earlier less. elim (cases_lt earlier s.furthest) [
+      | inl early ↦ stands.goes earlier early
+      | inr late ↦ unended (goes_at s.setting earlier) (end.least.none_before earlier late less)
+    ] in
     let whole = whole-at-end s.setting end.index goes end.least.here in
     let steps = ap (λ (now : Moment BoardView). now.steps) whole ∙ (open-up-to s.setting end.index goes).steps in
     omega (arith, steps)
-  where
-    before : (end earlier : ℕ) → earlier < end
-        → ((index : ℕ) → s.furthest ≤ index → index < end → not (goes_at s.setting index) ≡ false) → (b : Bool)
-        → nat_lt earlier s.furthest ≡ b → goes_at s.setting earlier ≡ true
-    before end earlier less met true e = stands.goes earlier (grind (arith, nat_tests))
-    before end earlier less met false e = unended (goes_at s.setting earlier) (met earlier (grind (arith, nat_tests)) less)
 
 -- so it is in all
 no-more : (lines : List (List ℕ)) (old new : SessionValue) → IsSession old → Makes (λ furthest. all_steps_again furthest lines) old new
@@ -252,7 +222,7 @@ again-joined furthest (line ∷ lines) more = let rest = again-joined furthest l
 
 tells-make : (lines : List (List ℕ)) (old : SessionValue) (text : List ℕ) (new : SessionValue) → Stands old → TellsAll lines old text new
     → Makes (λ furthest. all_steps_again furthest lines) old new
-tells-make [] old text new stands tells = unmoved _ old new stands (like old new old tells.1 (unchanged old))
+tells-make [] old text new stands tells = same _ old new stands tells.1
 tells-make (line ∷ lines) old text new stands tells =
     let first = told (command_of line) old tells.text_before tells.between stands tells.before in
     let rest = tells-make lines tells.between tells.text_after new first.stands tells.after in grind (arith, makes-on)
@@ -263,9 +233,7 @@ module _ {S : Type 0} (to : Giving S) where
       → RefusedAt to lines old sink new later → Makes (λ furthest. all_steps_again furthest lines) old new
   refused-makes [] old sink new later stands (inl refusal) = search rules
   refused-makes [] old sink new later stands (inr gone) =
-      let is = gone.session in
-      onwards _ old new stands (omega (arith, gone.index, gone.fresh)) (ap (λ (s : SessionValue). s.setting) is)
-      (ap (λ (s : SessionValue). s.furthest) is) (ap (λ (s : SessionValue). s.slots) is) (ap (λ (s : SessionValue). s.made) is)
+      onwards _ old new _ _ stands (omega (arith, gone.index, gone.fresh, stands.within)) gone.session
       (λ earlier from less. gone.restless earlier from (omega (arith, gone.index, less)))
   refused-makes (line ∷ lines) old sink new later stands refusal = grind (arith, held-at, held-up, makes-within)
 
@@ -275,9 +243,7 @@ module _ {S : Type 0} (to : Giving S) where
         → Makes (λ furthest. all_steps_again furthest lines) old.session new.session
     watched-makes lines old (Ok outcome) new stands watched =
         let first = tells-make lines old.session watched.told watched.between stands watched.lines in
-        let is = watched.session in
-        let rest = onwards none watched.between new.session first.stands watched.rest.after (ap (λ (s : SessionValue). s.setting) is)
-        (ap (λ (s : SessionValue). s.furthest) is) (ap (λ (s : SessionValue). s.slots) is) (ap (λ (s : SessionValue). s.made) is)
+        let rest = onwards (λ furthest. 0) watched.between new.session _ _ first.stands watched.rest.after watched.session
         (λ earlier from less. grind (arith, unended)) in
         grind (arith, makes-on, makes-within)
     watched-makes lines old (Err faults.Refused) new stands watched =

@@ -1,5 +1,5 @@
 -- A session at the beginning of its run.
-use Rattle.std.proofs.Common.{◌≡◌, ℕ, zero, suc, ◌+◌, ◌≤◌, List, [], ◌∷◌, length, map, replicate, None, refl, sym, ap, subst, ◌∙◌, arith}
+use Rattle.std.proofs.Common.{rules, ◌≡◌, ℕ, zero, suc, ◌+◌, ◌≤◌, List, [], ◌∷◌, length, map, replicate, None, refl, sym, ap, ◌∙◌, arith}
 use Rattle.pac_board_course.specs.Stretches.{held}
 use Rattle.pac_board_course.specs.Stretch.{Stretch}
 use Rattle.pac_board_course.proofs.Walks.{not-both}
@@ -8,9 +8,8 @@ use Rattle.pac_board_course.specs.PastStep.{PastStep}
 use Rattle.pac_debug_session.specs.declared.kept.SessionSnapshot.{SessionSnapshot}
 use Rattle.pac_debug_session.specs.declared.kept.SlotContents.{SlotContents}
 use Rattle.pac_debug_session.specs.Inside.{IsStanding, AreSlotsRight}
-use Rattle.pac_debug_session.specs.Keeping.{Ring, mark_of, mark_if, AreCheckpoints, AreSlots, AreEmpty}
+use Rattle.pac_debug_session.specs.Keeping.{Ring, mark_of, AreCheckpoints, AreSlots, AreEmpty}
 use Rattle.pac_debug_session.specs.Motions.{checkpoint_count}
-use Rattle.pac_debug_session.specs.Past.{told_at}
 use Rattle.pac_debug_session.specs.Running.{Setting, now_at}
 use Rattle.pac_debug_session.specs.SessionProofs.{IsNew}
 use Rattle.pac_debug_session.specs.Session.{session_at_start}
@@ -31,8 +30,7 @@ all-empty setting (slot ∷ more) empty = (λ filled. not-both (sym filled ∙ e
 
 pub no-marks : (slots : List SlotContents) → AreEmpty slots → map mark_of slots ≡ replicate (length slots) None
 no-marks [] empty = refl
-no-marks (slot ∷ more) empty =
-    ap (λ b. mark_if b slot.kept.snapshot.now.steps ∷ map mark_of more) empty.0 ∙ ap (λ marks. None ∷ marks) (no-marks more empty.1)
+no-marks (slot ∷ more) empty = cc (empty.0, no-marks more empty.1)
 
 none-seen : (furthest count : ℕ) → AreSeen furthest (replicate count None)
 none-seen furthest zero = tt
@@ -44,11 +42,7 @@ four-marks slots count empty = no-marks slots empty ∙ ap (λ n. replicate n No
 
 pub right-empty : (setting : Setting) (slots : List SlotContents) → length slots ≡ slot_count → AreEmpty slots →
     AreSlotsRight setting 0 slots
-right-empty setting slots count empty = record {
-  count = count;
-  kept = all-empty setting slots empty;
-  seen = subst (AreSeen 0) (sym (no-marks slots empty)) (none-seen 0 (length slots));
-}
+right-empty setting slots count empty = grind (arith, all-empty, no-marks, none-seen)
 
 -- ---- the first frame's inputs are held
 
@@ -61,10 +55,7 @@ module _ (board new : BoardValue) (script : List Stretch) (switches : ℕ) (same
   after state = board_with_inputs (record { set = board.set; state = state; made = board.made }) (held script 1)
 
   new-now : new.state.now ≡ now_at setting 0
-  new-now =
-      ap (λ (b : BoardValue). b.state.now) hold
-      ∙ ap (λ (s : BoardState). (after s).state.now) fresh
-      ∙ ap (λ n. now_at (record { set = board.set; switches = n; script = script }) 0) (sym same)
+  new-now = search rules
 
   pub new-asked : new.state.asked ≡ 0
   new-asked = ap (λ (b : BoardValue). b.state.asked) hold ∙ ap (λ (s : BoardState). s.asked) fresh
@@ -80,33 +71,11 @@ module _ (board new : BoardValue) (script : List Stretch) (switches : ℕ) (same
 
   pub stands-first : (history : List PastStep) (ring : Ring) → history ≡ [] → ring.taken ≡ 0 → length ring.kept ≡ checkpoint_count
       → IsStanding (setting-of new) new.state.now history 0 ring
-  stands-first history ring none taken all =
-      subst (λ (s : Setting). IsStanding s new.state.now history 0 ring) (sym setting-is) (record {
-        now_is = new-now ∙ ap (now_at setting) (sym new-steps);
-        within = let steps = new-steps in omega arith;
-        history_is = none ∙ ap (λ n. told_at setting n) (sym new-steps);
-        goes = λ earlier less. absurd (omega arith);
-        few = omega arith;
-        enough = omega arith;
-        all = all;
-        checkpoints =
-            subst (λ n. AreCheckpoints setting n ring.kept) (sym taken) (none-yet setting 0 ring.kept (omega arith));
-      })
+  stands-first history ring none taken all = grind (arith, new-now, new-steps, none-yet, setting-is)
 
   pub value-first : (slots : List SlotContents) → length slots ≡ slot_count → AreEmpty slots
       → with_board switches script new 0 [] (map mark_of slots) 0
       ≡ session_at_start (record { set = board.set; switches = board.state.now.board.memory.switches; script = script }) board.made
-  value-first slots count empty =
-      ap (λ (b : BoardValue). with_board switches script b 0 [] (map mark_of slots) 0) hold
-      ∙ ap (λ (s : BoardState). with_board switches script (after s) 0 [] (map mark_of slots) 0) fresh
-      ∙ ap (λ n. record (session_at_start (record { set = board.set; switches = n; script = script }) board.made) {
-        slots =
-            map mark_of slots;
-      }) same
-      ∙ ap (λ marks. record (session_at_start (record {
-        set = board.set;
-        switches = board.state.now.board.memory.switches;
-        script = script;
-      }) board.made) { slots = marks }) (four-marks slots count empty)
+  value-first slots count empty = grind (arith, four-marks, with_board)
 
 -- ---- boards

@@ -1,7 +1,6 @@
 -- Where a run goes no further: there is a first such index, and up to a step that was counted it goes on.
-use Rattle.std.proofs.Common.{◌≡◌, ℕ, zero, suc, ◌+◌, ◌-◌, ◌*◌, ◌≤◌, Bool, true, false, not, ◌&&◌, is_none, Option, None, Some, nat_le}
+use Rattle.std.proofs.Common.{◌≡◌, ℕ, zero, suc, ◌+◌, ◌-◌, ◌*◌, ◌≤◌, Bool, true, false, not, Option, None, Some}
 use Rattle.std.proofs.Common.{refl, ap, ◌∙◌, arith, rules}
-use Rattle.std.proofs.lemmas.Bool.Decides.{nat_tests}
 use Rattle.pac_board_course.specs.Stop.{Stop}
 use Rattle.pac_board_course.specs.Stretches.{total_frames}
 use Rattle.pac_board_course.specs.BoardView.{BoardView, power_on_board_view}
@@ -10,11 +9,18 @@ use Rattle.pac_board_course.specs.Trace.{by_view, frame_steps}
 use Rattle.pac_board_course.specs.Walk.{Walk, onward_if, walk_after_step}
 use Rattle.pac_board_course.specs.WalkLaws.{has_ended}
 use Rattle.pac_board_course.proofs.Runs.{runs-end}
-use Rattle.pac_board_course.proofs.Walks.{going-before, going-far, going-is-early, going-steps, ended-for-good, not-both, stopped-has-ended}
+use Rattle.pac_board_course.proofs.Walks.{going-before, going-far, going-steps, ended-for-good, not-both, stopped-has-ended}
 use Rattle.pac_board_course.proofs.Counted.{going-if-counted}
-use Rattle.pac_debug_session.specs.Running.{Setting, IsLeast, play_of, run, now_at, next_from, next_at, limit, is_late, stop_in, stop_at}
-use Rattle.pac_debug_session.specs.Running.{goes_at}
+use Rattle.pac_debug_session.specs.Running.{Setting, IsLeast, play_of, run, now_at, next_from, next_at, limit, stop_in, stop_at, goes_at}
+use Rattle.pac_debug_session.specs.Running.{is_late}
+use Rattle.std.proofs.lemmas.Bool.Decides.{nat_tests}
 use Rattle.pac_debug_session.proofs.Indices.{timely}
+use Rattle.std.proofs.Common.{sym, ◌<◌}
+use Rattle.pac_board_course.specs.Instructions.{most_ticks}
+use Rattle.pac_board_course.proofs.Runs.{walk-near}
+use Rattle.pac_board_course.proofs.Walks.{late-has-ended}
+use Rattle.pac_debug_session.specs.RunningLaws.{whole_run}
+use Rattle.pac_debug_session.proofs.Indices.{open-up-to, next-index}
 
 -- ---- the least index
 
@@ -50,18 +56,14 @@ module _ (setting : Setting) where
 
   goes-by : (index : ℕ) (h : Next BoardView) → next_at setting index ≡ h → has_ended (limit setting) (run setting index) ≡ false
       → stop_in h ≡ None → goes_at setting index ≡ true
-  goes-by index h is going none =
-      let early = going-is-early (limit setting) (run setting index) going in
-      let not_late : is_late setting index ≡ false = grind (arith, nat_tests) in
-      ap (λ late. not late && is_none (stop_at setting index)) not_late ∙ ap (λ h. is_none (stop_in h)) is ∙ ap is_none none
+  goes-by index h is going none = search rules
 
   -- where each of them was a step, the run goes on at each index before
   pub goes-if-counted : (last : ℕ) → (now_at setting (suc last)).steps ≡ suc last → (earlier : ℕ) → earlier ≤ last
       → goes_at setting earlier ≡ true
   goes-if-counted last counted earlier less =
       let first = start-steps in
-      let going =
-      going-if-counted (next_from setting) (limit setting) (timely setting) start last (omega (arith, counted, first)) in
+      let going = going-if-counted _ _ (timely setting) _ last (omega (arith, counted, first)) in
       let here = going-before (next_from setting) (limit setting) start earlier last less going in
       choose (next_at setting earlier) refl here
     where
@@ -77,8 +79,7 @@ module _ (setting : Setting) where
           ended-for-good (next_from setting) (limit setting) start (suc earlier) (last - earlier) (suc last) (omega arith) ended in
           let steps = ap (λ (w : Walk BoardView). w.now.steps) (same ∙ step) in
           let far = (going-far (next_from setting) (limit setting) (timely setting) start earlier here).steps in
-          let first = start-steps in
-          absurd (omega (arith, counted, steps, far, first, less))
+          absurd (omega (arith, counted, steps, far, less))
 
   -- ---- the first index at which it goes no further
 
@@ -90,9 +91,7 @@ module _ (setting : Setting) where
 
   stopped-there : (index : ℕ) (stop : Stop) → (run setting index).stop ≡ Some stop → stop_at setting index ≡ Some stop
   stopped-there zero stop e = absurd (cc)
-  stopped-there (suc index) stop e =
-      let w = run setting index in
-      onward-stopped w stop w.stop (nat_le (limit setting) w.now.time) (stopped-there index stop) e
+  stopped-there (suc index) stop e = grind (arith, onward-stopped, stopped-there index stop)
 
   -- where it has ended it goes no further
   over : (index : ℕ) → has_ended (limit setting) (run setting index) ≡ true → not (goes_at setting index) ≡ true
@@ -111,3 +110,47 @@ module _ (setting : Setting) where
 
   pub run-ends : (from : ℕ) → Found (λ index. not (goes_at setting index)) from
   run-ends from = search-up (λ index. not (goes_at setting index)) most from (over-later from)
+
+-- ---- the end of a run
+
+pub record IsWhole (setting : Setting) (index : ℕ) (stop : Option Stop) : Type 0 where
+  pub now : (whole_run setting).now ≡ now_at setting index
+  pub outputs : (whole_run setting).outputs ≡ (run setting index).outputs
+  pub stop_is : (whole_run setting).stop ≡ stop
+
+after-stop : (w : Walk BoardView) (h : Next BoardView) (stop : Stop) → stop_in h ≡ Some stop
+    → ((walk_after_step w h).now ≡ w.now) × ((walk_after_step w h).outputs ≡ w.outputs) × ((walk_after_step w h).stop ≡ Some stop)
+after-stop w h stop e = search rules
+
+-- at the first index at which it goes no further it is whole
+module _ (setting : Setting) (index : ℕ) (goes : (earlier : ℕ) → earlier < index → goes_at setting earlier ≡ true) where
+  open_yet : (run setting index).stop ≡ None
+  open_yet = (open-up-to setting index goes).open_yet
+
+  whole-at : (index : ℕ) → has_ended (limit setting) (run setting index) ≡ true → run setting index ≡ whole_run setting
+  whole-at index ended =
+      (runs-end (by_view setting.set) (play_of setting.script) (power_on_board_view setting.switches) index).1 ended
+
+  pub whole-late : is_late setting index ≡ true → IsWhole setting index None
+  whole-late late =
+      let over : limit setting ≤ (now_at setting index).time = grind (arith, nat_tests) in
+      let whole = sym (whole-at index (late-has-ended (limit setting) (run setting index) over)) in
+      record {
+        now = ap (λ (w : Walk BoardView). w.now) whole;
+        outputs = ap (λ (w : Walk BoardView). w.outputs) whole;
+        stop_is = ap (λ (w : Walk BoardView). w.stop) whole ∙ open_yet;
+      }
+
+  pub whole-stopped : (stop : Stop) → is_late setting index ≡ false → stop_at setting index ≡ Some stop → IsWhole setting index (Some stop)
+  whole-stopped stop early met =
+      let step = next-index setting index open_yet early in
+      let after = after-stop (run setting index) (next_at setting index) stop met in
+      let stopped : (run setting (suc index)).stop ≡ Some stop = ap (λ (w : Walk BoardView). w.stop) step ∙ after.2 in
+      let whole = sym (whole-at (suc index) (stopped-has-ended (limit setting) (run setting (suc index)) stop stopped)) in search rules
+
+  pub whole-at-end : not (goes_at setting index) ≡ true → (whole_run setting).now ≡ now_at setting index
+  whole-at-end over = grind (arith, not-both, setting, whole-late, whole-stopped)
+
+-- no run is longer than its frames by a step
+pub time-near : (setting : Setting) (index : ℕ) → (now_at setting index).time < limit setting + most_ticks
+time-near setting index = grind (arith, setting, timely, walk-near)

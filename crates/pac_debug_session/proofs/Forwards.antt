@@ -27,8 +27,7 @@ module _ (setting : Setting) where
 
   pub between-joined : (first second third : ℕ) → first ≤ second → second ≤ third
       → outputs_between setting first second ++ outputs_between setting second third ≡ outputs_between setting first third
-  between-joined first second third less more =
-      let before = prefix first second less in
+  between-joined first second third less more = let before = prefix _ _ less in
       let after = prefix second third more in
       ap (λ xs. xs ++ outputs_between setting second third) (between setting first second before.0 (sym before.1))
       ∙ ap (λ xs. before.0 ++ xs) (between setting second third after.0 (sym after.1))
@@ -58,15 +57,10 @@ module _ (setting : Setting) where
 
   pub joined-to-end : (from index : ℕ) → from ≤ index
       → outputs_between setting from index ++ outputs_from setting index ≡ outputs_from setting from
-  joined-to-end from index less =
-      let before = prefix from index less in
+  joined-to-end from index less = let before = prefix _ _ less in
       let after = whole-prefix index in
       let rest : outputs_from setting index ≡ after.0
       = ap (drop (length (run setting index).outputs)) (sym after.1) ∙ drop-append_seam (run setting index).outputs after.0 in
       let all : (whole_run setting).outputs ≡ (run setting from).outputs ++ (before.0 ++ after.0)
       = sym after.1 ∙ ap (λ xs. xs ++ after.0) (sym before.1) ∙ append_assoc (run setting from).outputs before.0 after.0 in
-      ap (λ xs. xs ++ outputs_from setting index) (between setting from index before.0 (sym before.1))
-      ∙ ap (λ xs. before.0 ++ xs) rest
-      ∙ sym
-      (ap (drop (length (run setting from).outputs)) all
-      ∙ drop-append_seam (run setting from).outputs (before.0 ++ after.0))
+      grind (arith, between, drop-append_seam)

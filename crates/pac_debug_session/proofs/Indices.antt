@@ -1,6 +1,6 @@
 -- A run at its indices: where it goes on, each index is one step, and each step takes its time.
-use Rattle.std.proofs.Common.{◌≡◌, ℕ, zero, suc, ◌<◌, Bool, true, false, ◌&&◌, not, is_none, Option, None, Some}
-use Rattle.std.proofs.Common.{List, ◌++◌, length, drop, refl, sym, ap, subst, ◌∙◌, arith}
+use Rattle.std.proofs.Common.{◌≡◌, ℕ, zero, suc, ◌<◌, Bool, true, false, ◌&&◌, not, is_none, None, rules}
+use Rattle.std.proofs.Common.{List, ◌++◌, length, drop, refl, ap, ◌∙◌, arith}
 use Rattle.std.proofs.lemmas.Bool.Decides.{nat_tests}
 use Rattle.std.proofs.Math.Seq.{drop-append_seam}
 use Rattle.pac_board_course.specs.StepKind.{StepKind}
@@ -8,22 +8,16 @@ use Rattle.pac_board_course.specs.Stretches.{held}
 use Rattle.pac_board_course.specs.BoardView.{BoardView}
 use Rattle.pac_board_course.specs.ModelLaws.{IsTimely}
 use Rattle.pac_board_course.specs.Output.{Output}
-use Rattle.pac_board_course.specs.Step.{Moment, Next, Goes, Ends}
+use Rattle.pac_board_course.specs.Step.{Moment, Next, Goes}
 use Rattle.pac_board_course.specs.Trace.{by_view}
-use Rattle.pac_board_course.specs.Walk.{Walk, walk_after_step}
-use Rattle.pac_board_course.proofs.Walks.{open-goes-on, going-steps, play-timely, not-both}
-use Rattle.pac_debug_session.specs.Running.{Setting, run, now_at, next_from, next_at, limit, is_late, stop_in, stop_at, goes_at}
-use Rattle.pac_debug_session.specs.Running.{outputs_between}
+use Rattle.pac_board_course.specs.Walk.{walk_after_step}
+use Rattle.pac_board_course.proofs.Walks.{play-timely}
+use Rattle.pac_debug_session.specs.Running.{Setting, run, now_at, next_from, next_at, limit, is_late, stop_at, goes_at, outputs_between}
 
 -- ---- tests
 
 both : (late none : Bool) → (not late && none) ≡ true → (late ≡ false) × (none ≡ true)
-both false none e = (refl, e)
-both true none e = not-both (sym e)
-
-none-is : {A : Type 0} (found : Option A) → is_none found ≡ true → found ≡ None
-none-is None e = refl
-none-is (Some x) e = not-both (sym e)
+both late none e = search rules
 
 -- ---- a step that is done
 
@@ -34,10 +28,6 @@ pub record IsGoing (h : Next BoardView) : Type 0 where
   pub kind : StepKind
   pub is : h ≡ Goes now outputs kind
 
-going : (h : Next BoardView) → stop_in h ≡ None → IsGoing h
-going (Goes now outputs kind) e = record { now = now; outputs = outputs; kind = kind; is = refl }
-going (Ends stop) e = cc
-
 module _ (setting : Setting) where
   pub timely : (now : Moment BoardView) → IsTimely now (next_from setting now)
   timely now = play-timely (by_view setting.set) (held setting.script) now
@@ -47,9 +37,7 @@ module _ (setting : Setting) where
   goes-early index goes = (both (is_late setting index) (is_none (stop_at setting index)) goes).0
 
   pub goes-on : (index : ℕ) → goes_at setting index ≡ true → IsGoing (next_at setting index)
-  goes-on index goes =
-      going (next_at setting index)
-      (none-is (stop_at setting index) (both (is_late setting index) (is_none (stop_at setting index)) goes).1)
+  goes-on index goes = search rules
 
   pub early-time : (index : ℕ) → is_late setting index ≡ false → (now_at setting index).time < limit setting
   early-time index early = grind (arith, nat_tests)
@@ -57,9 +45,7 @@ module _ (setting : Setting) where
   -- where it met no stop so far and isn't over, the next index is the next step
   pub next-index : (index : ℕ) → (run setting index).stop ≡ None → is_late setting index ≡ false
       → run setting (suc index) ≡ walk_after_step (run setting index) (next_at setting index)
-  next-index index open_yet early =
-      let w = run setting index in
-      going-steps (next_from setting) (limit setting) w (open-goes-on (limit setting) w open_yet (early-time index early))
+  next-index index open_yet early = search rules
 
   -- an index up to which the run goes on
   pub record IsOpen (index : ℕ) : Type 0 where
@@ -74,26 +60,7 @@ module _ (setting : Setting) where
 
   pub one-more : (index : ℕ) (now : Moment BoardView) (outputs : List Output) (kind : StepKind) → IsOpen index
       → is_late setting index ≡ false → next_at setting index ≡ Goes now outputs kind → IsOneMore index now outputs
-  one-more index now outputs kind before early is =
-      let w = run setting index in
-      let whole : run setting (suc index) ≡ walk_after_step w (Goes now outputs kind)
-      = next-index index before.open_yet early ∙ ap (walk_after_step w) is in
-      let times = subst (IsTimely w.now) is (timely w.now) in
-      let one = times.2 in
-      let longer = times.0 in
-      let so_far = before.steps in
-      let now_is : now_at setting (suc index) ≡ now = ap (λ (walked : Walk BoardView). walked.now) whole in
-      let steps = ap (λ (m : Moment BoardView). m.steps) now_is in
-      let time = ap (λ (m : Moment BoardView). m.time) now_is in
-      record {
-        stands = record {
-          open_yet = ap (λ (walked : Walk BoardView). walked.stop) whole;
-          steps = omega arith;
-        };
-        now_is = now_is;
-        outputs_is = ap (λ (walked : Walk BoardView). walked.outputs) whole;
-        later = omega arith;
-      }
+  one-more index now outputs kind before early is = grind (arith, next-index, timely)
 
   pub open-up-to : (index : ℕ) → ((earlier : ℕ) → earlier < index → goes_at setting earlier ≡ true) → IsOpen index
   open-up-to zero goes = record { open_yet = refl; steps = refl }

@@ -1,28 +1,26 @@
 -- Steps of a session in one go, by what the course's call answered: what stands before them stands after them.
-use Rattle.std.proofs.Common.{◌≡◌, ℕ, zero, suc, ◌+◌, ◌-◌, ◌*◌, ◌/◌, ◌%◌, ◌==◌, ◌<◌, ◌≤◌, Bool, true, min, max, nat_lt, rules}
-use Rattle.std.proofs.Common.{if◌then◌else◌, Option, None, Some, Result, Ok, Err, List, [], ◌∷◌, refl, sym, ap, subst, ◌∙◌, arith}
+use Rattle.std.proofs.Common.{◌≡◌, ℕ, zero, suc, ◌+◌, ◌-◌, ◌*◌, ◌/◌, ◌%◌, ◌==◌, ◌<◌, ◌≤◌, true, min, max, nat_lt, rules}
+use Rattle.std.proofs.Common.{if◌then◌else◌, Option, None, Some, Result, Ok, Err, List, refl, sym, ap, subst, ◌∙◌, arith}
 use Rattle.std.specs.List.{list_any}
 use Rattle.std.proofs.lemmas.Bool.{cases_lt}
+use mathlib.Core.Logic.{inl, inr}
 use Rattle.std.proofs.lemmas.Bool.Decides.{nat_tests}
 use mathlib.Core.List.{IsPrefix}
 use Rattle.pac_board_course.specs.TurnsProofs.{board_at}
 use Rattle.pac_board_course.specs.BoardView.{BoardView}
-use Rattle.pac_board_course.specs.Course.{CourseValue, next_in, way_walked}
+use Rattle.pac_board_course.specs.Course.{CourseValue, way_walked}
 use Rattle.pac_board_course.specs.Frames.{GoesTold, HasEndedBy, frame_end}
-use Rattle.pac_board_course.specs.ModelLaws.{IsTimely}
 use Rattle.pac_board_course.specs.PastStep.{PastStep}
 use Rattle.pac_board_course.specs.SinksLaws.{Giving}
 use Rattle.pac_board_course.specs.Sinks.{TookAll}
-use Rattle.pac_board_course.specs.State.{BoardValue, steps_counted}
-use Rattle.pac_board_course.specs.Step.{Moment, Next, Goes, frame_ticks}
+use Rattle.pac_board_course.specs.State.{BoardValue}
+use Rattle.pac_board_course.specs.Step.{Moment, frame_ticks}
 use Rattle.pac_board_course.specs.Stop.{Stop}
-use Rattle.pac_board_course.specs.Trails.{stepped, noted}
+use Rattle.pac_board_course.specs.Trails.{stepped}
 use Rattle.pac_board_course.specs.Walk.{Walk}
 use Rattle.pac_board_course.proofs.Sinks.{cut-along, cut-something}
-use Rattle.pac_board_course.proofs.Trails.{kept-joined}
-use Rattle.pac_debug_session.specs.Breakpoints.{AreStops, heeded_if}
+use Rattle.pac_debug_session.specs.Breakpoints.{AreStops}
 use Rattle.pac_debug_session.specs.Inside.{IsStanding, IsInsideRight, session_view}
-use Rattle.pac_debug_session.specs.declared.motion.Motion.{Motion}
 use Rattle.pac_debug_session.specs.declared.session.Session.TheInside.{Inside}
 use Rattle.pac_debug_session.specs.Keeping.{Ring}
 use Rattle.pac_debug_session.specs.Motions.{checkpoint_steps, moved_to}
@@ -30,13 +28,12 @@ use Rattle.pac_debug_session.specs.Past.{told_at}
 use Rattle.pac_debug_session.specs.Playing.{course_of}
 use Rattle.pac_debug_session.specs.Running.{now_at, goes_at, outputs_between}
 use Rattle.pac_debug_session.specs.Session.{SessionValue}
-use Rattle.pac_debug_session.specs.Strides.{MeetNothing, IsLeap, LeapEnds, IsLeapt, HasLeapt, IsLeapRefused, Leaps, stop_unless}
-use Rattle.pac_debug_session.specs.Strides.{HasStrode, Strides, heeds, longest_stride}
+use Rattle.pac_debug_session.specs.Strides.{MeetNothing, IsLeap, LeapEnds, HasLeapt, IsLeapRefused, Leaps, stop_unless}
 use Rattle.pac_debug_session.proofs.Ends.{goes-if-counted}
-use Rattle.pac_debug_session.proofs.Forwards.{between-self}
-use Rattle.pac_debug_session.proofs.Indices.{IsOpen, open-up-to, one-more, goes-on, goes-early, timely}
+use Rattle.pac_debug_session.proofs.Indices.{IsOpen, open-up-to}
 use Rattle.pac_debug_session.proofs.PlayedOn.{run-walked, given-walked, steps-same}
 use Rattle.pac_debug_session.proofs.Steppings.{IsLeft}
+use Rattle.pac_debug_session.proofs.Reached.{IsReached, reached, next, from}
 
 -- a session on a board further on, and that board's course
 abbrev pub session_on : SessionValue → BoardValue → SessionValue
@@ -59,45 +56,8 @@ Gone old to sink later limit stops new told result =
 
 module _ (old : SessionValue) (within : old.index ≤ old.furthest)
     (goes : (earlier : ℕ) → earlier < old.furthest → goes_at old.setting earlier ≡ true) where
-  abbrev next : Moment BoardView → Next BoardView
-  next = next_in (course_of old)
-
-  abbrev from : Moment BoardView
-  from = now_at old.setting old.index
-
-  abbrev told_here : Option (List PastStep)
-  told_here = Some (told_at old.setting old.index)
-
-  abbrev seen_on : BoardValue → SessionValue
-  seen_on = session_on old
-
   opened : IsOpen old.setting old.index
   opened = open-up-to old.setting old.index (λ earlier less. goes earlier (omega arith))
-
-  -- ---- step by step
-
-  record IsReached (n : ℕ) : Type 0 where
-    pub now_is : now_at old.setting (old.index + n) ≡ stepped next from n
-    pub time : from.time + 4 * n ≤ (now_at old.setting (old.index + n)).time
-    pub told : Some (told_at old.setting (old.index + n)) ≡ noted next from told_here n
-
-  reached : (n : ℕ) → ((earlier : ℕ) → earlier < old.index + n → goes_at old.setting earlier ≡ true) → IsReached n
-  reached zero on = search rules
-  reached (suc n) goes =
-      let before = reached n (λ earlier less. goes earlier (omega arith)) in
-      let place : ℕ = old.index + n in
-      let there = now_at old.setting place in
-      let here = goes place (omega arith) in
-      let on = goes-on old.setting place here in
-      let so_open = open-up-to old.setting place (λ earlier less. goes earlier (omega arith)) in
-      let one = one-more old.setting place on.now on.outputs on.kind so_open (goes-early old.setting place here) on.is in
-      let following : suc place ≡ old.index + suc n = omega arith in
-      let times = subst (λ (h : Next BoardView). IsTimely there h) on.is (timely old.setting there) in
-      let comes : next (stepped next from n) ≡ Goes on.now on.outputs on.kind
-      = ap next (sym before.now_is) ∙ steps-same old opened there ∙ on.is in
-      let now_there : now_at old.setting (old.index + suc n) ≡ on.now = ap (now_at old.setting) (sym following) ∙ one.now_is in
-      let time = ap (λ (m : Moment BoardView). m.time) now_there in
-      let line : List PastStep = record { index = place; pc = there.regs.pc; kind = on.kind } ∷ [] in grind (arith, kept-joined, there)
 
   -- ---- where the course's call leaves the board
 
@@ -108,7 +68,7 @@ module _ (old : SessionValue) (within : old.index ≤ old.furthest)
 
   is-there : (board : BoardValue) (tries : ℕ)
       → board ≡ board_at (course_of old).board (way_walked (course_of old) tries).now board.state.due
-      → board.state.now.steps ≡ from.steps + tries → IsThere board tries
+      → board.state.now.steps ≡ (from old).steps + tries → IsThere board tries
   is-there board tries is all =
       let now = ap (λ (b : BoardValue). b.state.now) is in
       record {
@@ -126,11 +86,9 @@ module _ (old : SessionValue) (within : old.index ≤ old.furthest)
         let due = ap (λ (c : CourseValue). c.board.state.due) played.course in
         let is = ap (λ (c : CourseValue). c.board) played.course in (
           played.steps,
-          is-there new played.steps
-              (is ∙ ap (board_at (course_of old).board (way_walked (course_of old) played.steps).now) (sym due)) played.all_steps,
+          is-there _ _ (is ∙ ap (board_at (course_of old).board (way_walked (course_of old) played.steps).now) (sym due)) played.all_steps,
         )
-    there (Err refusal) gone =
-        (gone.made.steps, is-there new gone.made.steps (ap (λ (c : CourseValue). c.board) gone.made.course) gone.made.all_steps)
+    there (Err refusal) gone = (gone.made.steps, is-there _ _ (ap (λ (c : CourseValue). c.board) gone.made.course) gone.made.all_steps)
 
     module _ {E : Type 0} (result : Result (Option Stop) E) (gone : Gone old to sink later limit stops new told result) where
       abbrev tries : ℕ
@@ -140,17 +98,17 @@ module _ (old : SessionValue) (within : old.index ≤ old.furthest)
       stands = (there result gone).1
 
       goes-all : (earlier : ℕ) → earlier < old.index + tries → goes_at old.setting earlier ≡ true
-      goes-all earlier less = choose tries refl less
-        where
-          choose : (n : ℕ) → tries ≡ n → earlier < old.index + n → goes_at old.setting earlier ≡ true
-          choose zero is less = goes earlier (omega arith)
-          choose (suc m) is less =
-              let last : old.index + tries ≡ suc (old.index + m) = omega arith in
-              let counted = sym (ap (λ (m : Moment BoardView). m.steps) stands.now_is) ∙ stands.steps in
-              goes-if-counted old.setting (old.index + m) (subst (λ n. (now_at old.setting n).steps ≡ n) last counted) earlier (omega arith)
+      goes-all earlier less = elim (cases_lt 0 tries) [
+        | inl some ↦
+            let counted = sym (ap (λ (m : Moment BoardView). m.steps) stands.now_is) ∙ stands.steps in
+            let last : old.index + tries ≡ suc (old.index + tries - 1) = omega arith in
+            goes-if-counted old.setting (old.index + tries - 1) (subst (λ n. (now_at old.setting n).steps ≡ n) last counted) earlier
+            (omega arith)
+        | inr none ↦ goes earlier (omega arith)
+      ]
 
-      reached-here : (n : ℕ) → n ≤ tries → IsReached n
-      reached-here n less = reached n (λ earlier before. goes-all earlier (omega arith))
+      reached-here : (n : ℕ) → n ≤ tries → IsReached old n
+      reached-here n less = reached old opened n (λ earlier before. goes-all earlier (omega arith))
 
       as-many : gone.told_is.count ≡ tries
       as-many = omega (arith, opened.steps, gone.told_is.steps, stands.steps)
@@ -162,16 +120,11 @@ module _ (old : SessionValue) (within : old.index ≤ old.furthest)
       begun-at : (n : ℕ) → n < tries → (now_at old.setting (old.index + n)).time < min limit (frame_end (course_of old))
       begun-at n less = grind (arith, as-many, reached-here)
 
-      frame-at : (n : ℕ) → n < tries → (now_at old.setting (old.index + n)).time / frame_ticks ≡ from.time / frame_ticks
-      frame-at n less =
-          omega (arith, (reached-here n (omega arith)).time, begun-at n less)
+      frame-at : (n : ℕ) → n < tries → (now_at old.setting (old.index + n)).time / frame_ticks ≡ (from old).time / frame_ticks
+      frame-at n less = omega (arith, (reached-here n (omega arith)).time, begun-at n less)
 
-      few-steps : (fits : ℕ) → limit ≡ from.time + 4 * fits → tries ≤ fits
-      few-steps fits limit_is = choose tries refl
-        where
-          choose : (n : ℕ) → tries ≡ n → n ≤ fits
-          choose zero is = omega arith
-          choose (suc m) is = omega (arith, begun-at m (omega arith), (reached-here m (omega arith)).time)
+      few-steps : (fits : ℕ) → limit ≡ (from old).time + 4 * fits → tries ≤ fits
+      few-steps fits limit_is = grind (arith, begun-at (tries - 1), reached-here (tries - 1))
 
       nothing-met : (heeded : List ℕ) → AreStops stops heeded → MeetNothing old.setting heeded old.index new.state.now.steps
       nothing-met heeded are =
@@ -185,7 +138,7 @@ module _ (old : SessionValue) (within : old.index ≤ old.furthest)
                 let here = ap (λ (m : Moment BoardView). m.regs.pc)
                 (ap (now_at old.setting) same ∙ (reached-here n (omega arith)).now_is) in
                 ap (λ pc. list_any (λ address. address == pc) heeded) here
-                ∙ sym (are (stepped next from n).regs.pc) ∙ gone.passes n (omega arith) (omega arith);
+                ∙ sym (are (stepped (next old) (from old) n).regs.pc) ∙ gone.passes n (omega arith) (omega arith);
             frame = λ i after before.
                 let n : ℕ = i - old.index in
                 let same : i ≡ old.index + n = omega arith in
@@ -193,15 +146,10 @@ module _ (old : SessionValue) (within : old.index ≤ old.furthest)
           }
 
       -- what a session sees then
-      value-there : seen_on new ≡ record (moved_to old new.state.now.steps) { due = new.state.due }
-      value-there =
-          ap seen_on stands.board_is
-          ∙ ap (λ n. record (moved_to old new.state.now.steps) {
-            due = new.state.due;
-            made = steps_counted old.made (new.state.now.steps - n);
-          }) opened.steps
+      value-there : session_on old new ≡ record (moved_to old new.state.now.steps) { due = new.state.due }
+      value-there = grind (arith, stands, opened)
 
-      now-then : new.state.now ≡ now_at (seen_on new).setting new.state.now.steps
+      now-then : new.state.now ≡ now_at (session_on old new).setting new.state.now.steps
       now-then = grind (arith, stands)
 
       -- ---- what stands after them
@@ -212,12 +160,11 @@ module _ (old : SessionValue) (within : old.index ≤ old.furthest)
       pub asked-then : new.state.asked ≡ 0
       asked-then = ap (λ (b : BoardValue). b.state.asked) stands.board_is
 
-      module _ (most fits : ℕ) (limit_is : limit ≡ from.time + 4 * fits)
+      module _ (most fits : ℕ) (limit_is : limit ≡ (from old).time + 4 * fits)
           (fits_is : fits ≡ min most (checkpoint_steps - old.index % checkpoint_steps)) where
         pub stands-then : (ring : Ring) → IsLeft old.setting old.index old.furthest ring
-            → IsStanding (seen_on new).setting new.state.now told (seen_on new).furthest ring
+            → IsStanding (session_on old new).setting new.state.now told (session_on old new).furthest ring
         stands-then ring left =
-            let all = stands.steps in
             let less = few-steps fits limit_is in
             subst (λ set. IsStanding (record old.setting { set = set }) new.state.now told (max old.furthest new.state.now.steps) ring)
             (sym (ap (λ (b : BoardValue). b.set) stands.board_is)) (grind (arith, cases_lt, goes-all, stands, told-there))
@@ -233,53 +180,51 @@ module _ (old : SessionValue) (within : old.index ≤ old.furthest)
             → LeapEnds old (if nat_lt old.index new.state.now.steps then None else found) new.state.now.steps
         ends-so found ended = grind (arith, nat_tests, reached-here, stands, steps-same)
 
-  -- ---- by the answer
+    -- ---- by the answer
 
-  module _ {S : Type 0} (to : Giving S) (sink later : S) (limit : ℕ) (stops : Option (List ℕ)) (new : BoardValue) (told : List PastStep)
-      (most fits : ℕ) (limit_is : limit ≡ from.time + 4 * fits)
-      (fits_is : fits ≡ min most (checkpoint_steps - old.index % checkpoint_steps)) (heeded : List ℕ) (are : AreStops stops heeded) where
-    leapt-so : {E : Type 0} (found : Option Stop) → Gone {E = E} old to sink later limit stops new told (Ok found)
-        → HasLeapt to.took old heeded most old.index new.state.now.steps sink (if nat_lt old.index new.state.now.steps then None else found)
-        (seen_on new) later
-    leapt-so {E} found gone =
-        let answer : Result (Option Stop) E = Ok found in
-        let all : new.state.now.steps ≡ old.index + gone.made.played.steps = omega (arith, opened.steps) in
-        record {
-          leapt = record {
-            leap = leap-of to sink later limit stops new told answer gone most fits limit_is fits_is heeded are;
-            ending = ends-so to sink later limit stops new told answer gone most fits limit_is fits_is found gone.made.ending;
-            session = grind (arith, value-there);
-          };
-          sink_is =
-              subst (λ xs. TookAll to.took sink xs later)
-              (sym (ap (outputs_between old.setting old.index) all ∙ given-walked old opened gone.made.played.steps))
-              gone.made.played.sink_is;
-        }
+    module _ (most fits : ℕ) (limit_is : limit ≡ (from old).time + 4 * fits)
+        (fits_is : fits ≡ min most (checkpoint_steps - old.index % checkpoint_steps)) (heeded : List ℕ) (are : AreStops stops heeded) where
+      leapt-so : {E : Type 0} (found : Option Stop) → Gone {E = E} old to sink later limit stops new told (Ok found)
+          → HasLeapt to.took old heeded most old.index new.state.now.steps sink
+          (if nat_lt old.index new.state.now.steps then None else found) (session_on old new) later
+      leapt-so {E} found gone =
+          let all : new.state.now.steps ≡ old.index + gone.made.played.steps = omega (arith, opened.steps) in
+          record {
+            leapt = record {
+              leap = leap-of (Ok found) gone most fits limit_is fits_is heeded are;
+              ending = ends-so (Ok found) gone most fits limit_is fits_is found gone.made.ending;
+              session = grind (arith, value-there);
+            };
+            sink_is =
+                subst (λ xs. TookAll to.took sink xs later)
+                (sym (ap (outputs_between old.setting old.index) all ∙ given-walked old opened gone.made.played.steps))
+                gone.made.played.sink_is;
+          }
 
-    leap-refused : {E : Type 0} (refusal : E) → Gone old to sink later limit stops new told (Err refusal)
-        → IsLeapRefused to old heeded most sink (seen_on new) later
-    leap-refused refusal gone = choose gone.made.steps refl
-      where
-        choose : (n : ℕ) → gone.made.steps ≡ n → IsLeapRefused to old heeded most sink (seen_on new) later
-        choose zero is = cut-something gone.made.cut (ap (λ n. (way_walked (course_of old) n).outputs) is)
-        choose (suc last) is =
-            let all : new.state.now.steps ≡ old.index + gone.made.steps = omega (arith, opened.steps) in
-            record {
-              last = old.index + last;
-              index = omega (arith, opened.steps);
-              after = omega (arith, opened.steps);
-              leap = leap-of to sink later limit stops new told (Err refusal) gone most fits limit_is fits_is heeded are;
-              session = value-there to sink later limit stops new told (Err refusal) gone;
-              cut =
-                  cut-along (ap (outputs_between old.setting old.index) all ∙ given-walked old opened gone.made.steps)
-                  (cc (now-then to sink later limit stops new told (Err refusal) gone)) gone.made.cut;
-              of_last = subst (λ xs. IsPrefix xs gone.made.cut.taken) (sym (given-walked old opened last)) (gone.made.of_last last is);
-            }
+      leap-refused : {E : Type 0} (refusal : E) → Gone old to sink later limit stops new told (Err refusal)
+          → IsLeapRefused to old heeded most sink (session_on old new) later
+      leap-refused refusal gone = choose gone.made.steps refl
+        where
+          choose : (n : ℕ) → gone.made.steps ≡ n → IsLeapRefused to old heeded most sink (session_on old new) later
+          choose zero is = cut-something gone.made.cut (ap (λ n. (way_walked (course_of old) n).outputs) is)
+          choose (suc last) is =
+              let all : new.state.now.steps ≡ old.index + gone.made.steps = omega (arith, opened.steps) in
+              record {
+                last = old.index + last;
+                index = omega (arith, opened.steps);
+                after = omega (arith, opened.steps);
+                leap = leap-of (Err refusal) gone most fits limit_is fits_is heeded are;
+                session = value-there (Err refusal) gone;
+                cut =
+                    cut-along (ap (outputs_between old.setting old.index) all ∙ given-walked old opened gone.made.steps)
+                    (cc (now-then (Err refusal) gone)) gone.made.cut;
+                of_last = subst (λ xs. IsPrefix xs gone.made.cut.taken) (sym (given-walked old opened last)) (gone.made.of_last last is);
+              }
 
-    pub leaps-so : {E : Type 0} (result : Result (Option Stop) E) → Gone old to sink later limit stops new told result
-        → Leaps to old heeded most sink (stop_unless (nat_lt old.index new.state.now.steps) result) (seen_on new) later
-    leaps-so (Ok found) gone = leapt-so found gone
-    leaps-so (Err refusal) gone = leap-refused refusal gone
+      pub leaps-so : {E : Type 0} (result : Result (Option Stop) E) → Gone old to sink later limit stops new told result
+          → Leaps to old heeded most sink (stop_unless (nat_lt old.index new.state.now.steps) result) (session_on old new) later
+      leaps-so (Ok found) gone = leapt-so found gone
+      leaps-so (Err refusal) gone = leap-refused refusal gone
 
 pub taken-up : {S E : Type 0} (to : Giving S) (inside : Inside) (right : IsInsideRight inside) (board new : BoardValue)
     (limit : ℕ) (stops : Option (List ℕ)) (sink later : S) (result : Result (Option Stop) E) (told : List PastStep)
@@ -288,18 +233,3 @@ pub taken-up : {S E : Type 0} (to : Giving S) (inside : Inside) (right : IsInsid
     (course_on (session_view inside) new) (Some told) later
     → Gone (session_view inside) to sink later limit stops new told result
 taken-up to inside right board new limit stops sink later result told is gone = search rules
-
--- ---- on behalf of a motion
-
-module _ {S : Type 0} (to : Giving S) (old new : SessionValue) (motion : Motion) (from : ℕ) (heeded : Bool) (most : ℕ)
-    (heeded_is : heeded ≡ heeds motion) (most_is : most ≡ longest_stride motion (old.index - from)) (sink later : S) where
-  -- from the furthest index on what they give is fresh
-  pub strode-fresh : {E : Type 0} (result : Result (Option Stop) E) → old.index ≡ old.furthest
-      → Leaps to old (heeded_if heeded old.breakpoints) most sink result new later → Strides to old motion from sink result new later
-  strode-fresh result fresh leaps = search rules
-
-  -- and before it the sink was given it
-  pub strode-stale : (asked : ℕ) (stop : Option Stop) → asked ≡ min most (old.furthest - old.index)
-      → old.index ≤ old.furthest → IsLeapt old (heeded_if heeded old.breakpoints) asked stop new
-      → HasStrode to.took old motion from sink stop new sink
-  strode-stale asked stop asked_is within leapt = grind (arith, between-self)

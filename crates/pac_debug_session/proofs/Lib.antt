@@ -11,5 +11,6 @@ pub mod Finished
 pub mod Ends
 pub mod PlayedOn
 pub mod Rings
+pub mod Reached
 pub mod Leapt
 pub mod Swallowed

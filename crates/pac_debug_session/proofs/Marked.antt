@@ -1,5 +1,5 @@
 -- The map of all addresses marks those that are breakpoints.
-use Rattle.std.proofs.Common.{◌≡◌, ◌<◌, ℕ, zero, suc, ◌==◌, not, Bool, true, false, List, [], length, filter, Some}
+use Rattle.std.proofs.Common.{◌≡◌, ◌<◌, ℕ, suc, ◌==◌, not, Bool, true, false, List, [], length, filter, Some}
 use Rattle.std.proofs.Common.{slice_index, slice_set, replicate, refl, sym, ap, ◌∙◌, arith}
 use Rattle.std.specs.List.{list_any}
 use Rattle.std.proofs.lemmas.Bool.Decides.{nat_tests}
@@ -9,9 +9,8 @@ use Rattle.pac_debug_session.specs.Breakpoints.{AreStops}
 
 -- zeros mark none
 zeros-at : (n at : ℕ) → slice_index (replicate n 0) at ≡ 0
-zeros-at zero at = refl
-zeros-at (suc n) zero = refl
 zeros-at (suc n) (suc at) = zeros-at n at
+zeros-at n at = refl
 
 pub none-marked : (n : ℕ) → AreStops (Some (replicate n 0)) []
 none-marked n at = ap (λ byte. not (byte == 0)) (zeros-at n at)

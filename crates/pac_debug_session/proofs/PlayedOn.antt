@@ -1,22 +1,22 @@
 -- A session's run from its furthest index on is the way on of its course.
-use Rattle.std.proofs.Common.{◌≡◌, ℕ, zero, suc, ◌+◌, ◌*◌, ◌≤◌, Option, List, ◌++◌, length, drop, refl, sym, ap, subst, ◌∙◌, arith}
+use Rattle.std.proofs.Common.{◌≡◌, ℕ, zero, suc, ◌+◌, ◌*◌, ◌≤◌, Option, List, ◌++◌, refl, sym, ap, subst, ◌∙◌, arith, rules}
 use Rattle.std.proofs.Math.Seq.{drop-append_seam}
-use Rattle.pac_board_course.specs.Stretches.{total_frames, held, most_frames}
+use Rattle.pac_board_course.specs.Stretches.{total_frames, most_frames}
 use mathlib.Core.List.{IsPrefix}
 use Rattle.pac_board_course.specs.BoardView.{BoardView, power_on_board_view}
 use Rattle.pac_board_course.specs.Output.{Output}
 use Rattle.pac_board_course.specs.Step.{Moment, Next, frame_ticks}
 use Rattle.pac_board_course.specs.Stop.{Stop}
 use Rattle.pac_board_course.specs.Trace.{by_view, frame_steps}
-use Rattle.pac_board_course.specs.Walk.{Walk, walk, walk_to}
+use Rattle.pac_board_course.specs.Walk.{Walk, walk}
 use Rattle.pac_board_course.proofs.Runs.{runs-end}
 use Rattle.pac_board_course.proofs.Sinks.{took-both, cut-along, cut-after, cut-something, prefix-after}
 use Rattle.pac_board_course.proofs.Walks.{joined, more-joined, goes-on, walk-to-ends}
 use Rattle.pac_board_course.specs.SinksLaws.{Giving}
 use Rattle.pac_board_course.specs.Sinks.{TookAll}
-use Rattle.pac_board_course.specs.State.{nothing_due, due_outputs, due_outputs_in}
-use Rattle.pac_board_course.proofs.Begun.{walk-same, play-same}
-use Rattle.pac_board_course.specs.Course.{CourseValue, end_of, held_in, next_in, way_on, way_walked, outcome_at}
+use Rattle.pac_board_course.specs.State.{nothing_due, due_outputs}
+use Rattle.pac_board_course.proofs.Begun.{walk-same}
+use Rattle.pac_board_course.specs.Course.{CourseValue, end_of, next_in, way_on, way_walked, outcome_at}
 use Rattle.pac_board_course.specs.declared.outcome.Outcome.{Outcome}
 use Rattle.pac_board_course.specs.Plays.{IsOver, IsCourseHeldUp}
 use Rattle.pac_debug_session.specs.MotionsProofs.{IsFinished, replayed_to}
@@ -29,7 +29,7 @@ use Rattle.pac_debug_session.specs.Session.{SessionValue}
 use Rattle.pac_debug_session.specs.SessionLaws.{IsSession, session_due_outputs}
 use Rattle.pac_debug_session.proofs.Ends.{start, run-ends, goes-if-counted}
 use Rattle.pac_debug_session.proofs.Indices.{IsOpen, open-up-to, timely, between}
-use Rattle.pac_debug_session.proofs.Travelled.{time-near}
+use Rattle.pac_debug_session.proofs.Ends.{time-near}
 
 -- ---- the course's walks are the run's
 
@@ -50,39 +50,29 @@ module _ (s : SessionValue) (opened : IsOpen s.setting s.index) where
   limits = omega arith
 
   pub steps-same : (now : Moment BoardView) → next_in course now ≡ next now
-  steps-same now =
-      let masks : (frame : ℕ) → held_in course frame ≡ held s.setting.script frame = λ frame. ap (held s.setting.script) (omega arith) in
-      play-same (by_view s.setting.set) (held_in course) (held s.setting.script) masks now
+  steps-same now = search rules
 
   walked-same : (tries : ℕ) → way_walked course tries ≡ walk next (limit s.setting) here.now tries
-  walked-same tries =
-      ap (λ end. walk (next_in course) end here.now tries) limits
-      ∙ walk-same (next_in course) next (limit s.setting) steps-same here.now tries
+  walked-same tries = search rules
 
   -- up to a later index, and to the end
   pub run-walked : (tries : ℕ) → after_here (way_walked course tries) ≡ run s.setting (s.index + tries)
   run-walked tries =
-      ap after_here (walked-same tries)
-      ∙ more-joined next (limit s.setting) (start s.setting) s.index tries (s.index + tries) refl opened.open_yet
+      cc (walked-same tries, more-joined next (limit s.setting) (start s.setting) s.index tries (s.index + tries) refl opened.open_yet)
 
   pub run-on : after_here (way_on course) ≡ whole_run s.setting
   run-on =
       ap after_here
-      (ap (λ end. walk_to (next_in course) end here.now) limits
-      ∙ walk-same (next_in course) next (limit s.setting) steps-same here.now (limit s.setting))
+      (grind (arith, limits, steps-same, walk-same))
       ∙ goes-on next (limit s.setting) (timely s.setting) (start s.setting) s.index
       ∙ (runs-end (by_view s.setting.set) (play_of s.setting.script) (power_on_board_view s.setting.switches) (limit s.setting)).1
       (walk-to-ends next (limit s.setting) (timely s.setting) (start s.setting))
 
   pub given-walked : (tries : ℕ) → outputs_between s.setting s.index (s.index + tries) ≡ (way_walked course tries).outputs
-  given-walked tries =
-      between s.setting s.index (s.index + tries) (way_walked course tries).outputs
-      (ap (λ (w : Walk BoardView). w.outputs) (sym (run-walked tries)))
+  given-walked tries = grind (arith, between, run-walked)
 
   pub given-on : outputs_from s.setting s.index ≡ (way_on course).outputs
-  given-on =
-      ap (drop (length here.outputs)) (ap (λ (w : Walk BoardView). w.outputs) (sym run-on))
-      ∙ drop-append_seam here.outputs (way_on course).outputs
+  given-on = grind (arith, drop-append_seam, run-on)
 
 -- ---- a session that plays on
 
@@ -97,8 +87,7 @@ module _ {S : Type 0} (to : Giving S) (old : SessionValue) (facts : IsSession ol
 
   pub stands-there : (mid new : SessionValue) (index : ℕ) → mid ≡ record old { due = nothing_due; replayed = 0 } → index ≡ mid.furthest
       → new ≡ replayed_to mid index → new ≡ at_furthest
-  stands-there mid new index mid_is furthest is =
-      is ∙ ap (replayed_to mid) furthest ∙ ap (λ (s : SessionValue). replayed_to s s.furthest) mid_is
+  stands-there mid new index mid_is furthest is = search rules
 
   abbrev due : List Output
   due = session_due_outputs old
@@ -133,8 +122,7 @@ module _ {S : Type 0} (to : Giving S) (old : SessionValue) (facts : IsSession ol
       let whole = run-on at_furthest opened-there in
       let time = ap (λ (course : CourseValue). course.board.state.now.time) over.course ∙ ap (λ (w : Walk BoardView). w.now.time) whole in
       let near = time-near old.setting (frame_steps * total_frames old.setting.script) in
-      let short = facts.short in
-      omega (arith, time, near, short)
+      omega (arith, time, near)
 
   -- an output was refused, after one step at least
   held-there : (after : CourseValue) (later : S) (steps : ℕ)
@@ -145,21 +133,18 @@ module _ {S : Type 0} (to : Giving S) (old : SessionValue) (facts : IsSession ol
       let last : ℕ = old.furthest + more in
       let index : ℕ = old.furthest + suc more in
       let next : index ≡ suc last = omega arith in
-      let walked = way_walked (course_of at_furthest) (suc more) in
       let at : after.board.state.now ≡ now_at old.setting index
       = ap (λ (course : CourseValue). course.board.state.now) stopped.course
       ∙ ap (λ n. (way_walked (course_of at_furthest) n).now) count
       ∙ ap (λ (w : Walk BoardView). w.now) (run-walked at_furthest opened-there (suc more)) in
       let set : after.board.set ≡ old.setting.set = ap (λ (course : CourseValue). course.board.set) stopped.course in
-      let all = stopped.all_steps in
       let first = opened-there.steps in
       let here = ap (λ (m : Moment BoardView). m.steps) at in
       let there = ap (λ n. (now_at old.setting n).steps) next in
-      let counted : (now_at old.setting (suc last)).steps ≡ suc last = omega (arith, all, count, first, here, there) in
+      let counted : (now_at old.setting (suc last)).steps ≡ suc last = omega (arith, count, first, here, there) in
       let left : SessionValue = record (moved_to old index) { due = after.board.state.due; replayed = 0 } in
       let still : due_outputs after.board ≡ session_due_outputs left
-      = ap (λ set. due_outputs_in set after.board.state.now.board after.board.state.due) set
-      ∙ ap (λ (m : Moment BoardView). due_outputs_in old.setting.set m.board after.board.state.due) at in
+      = cc (set, at) in
       let given = given-walked at_furthest opened-there (suc more) ∙ ap (λ n. (way_walked (course_of at_furthest) n).outputs) (sym count) in
       let most =
       subst (λ outputs. IsPrefix outputs stopped.cut.taken) (sym (given-walked at_furthest opened-there more))

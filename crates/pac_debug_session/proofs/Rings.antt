@@ -1,5 +1,6 @@
 -- The ring of checkpoints: it is full before one is taken and after, and it is filled one by one.
-use Rattle.std.proofs.Common.{◌≡◌, ◌∙◌, ℕ, ◌+◌, ◌-◌, ◌<◌, ◌≤◌, List, [], ◌∷◌, ◌++◌, length, drop, None, is_some}
+use Rattle.std.proofs.lemmas.Grind.{common_steps}
+use Rattle.std.proofs.Common.{◌≡◌, ℕ, ◌+◌, ◌-◌, ◌<◌, ◌≤◌, List, [], ◌∷◌, ◌++◌, length, drop, None, is_some}
 use Rattle.std.proofs.Common.{ap, true≢false, arith, length-append}
 use Rattle.std.specs.Prelude.{slice_get}
 use Rattle.std.proofs.lemmas.List.{length-drop}
@@ -11,17 +12,13 @@ pub one-for-one : (kept : List SessionSnapshot) (one : SessionSnapshot) (capacit
     → keep_last capacity (drop 1 kept ++ one ∷ []) ≡ drop 1 kept ++ one ∷ []
 one-for-one kept one capacity count room =
     let all = drop 1 kept ++ one ∷ [] in
-    let left = length-drop 1 kept in
     let parts = length-append (drop 1 kept) (one ∷ []) in
-    let none : length all - capacity ≡ 0 = omega (arith, left, parts, count, room) in
+    let none : length all - capacity ≡ 0 = omega (arith, length-drop 1 kept, parts, count, room) in
     ap (λ n. drop n all) none
 
 -- and they are as many as before
 pub as-many : (kept : List SessionSnapshot) (one : SessionSnapshot) → length kept ≡ 16 → length (drop 1 kept ++ one ∷ []) ≡ 16
-as-many kept one count =
-    let left = length-drop 1 kept in
-    let parts = length-append (drop 1 kept) (one ∷ []) in
-    omega (arith, left, parts, count)
+as-many kept one count = omega (arith, length-drop 1 kept, length-append (drop 1 kept) (one ∷ []))
 
 -- a full one has a first
 pub has-first : (kept : List SessionSnapshot) → length kept ≡ 16 → slice_get kept 0 ≡ None → ⊥
@@ -32,12 +29,7 @@ has-first (one ∷ more) count none = true≢false (ap is_some none)
 pub one-more-kept : (kept : List SessionSnapshot) (one : SessionSnapshot) (capacity count : ℕ) → length kept ≡ count → count < 16 →
     capacity ≡ 16
     → length (keep_last capacity (kept ++ one ∷ [])) ≡ count + 1
-one-more-kept kept one capacity count is below room =
-    let all = kept ++ one ∷ [] in
-    let parts = length-append kept (one ∷ []) in
-    let none : length all - capacity ≡ 0 = omega (arith, parts, is, below, room) in
-    let long : length all ≡ count + 1 = omega (arith, parts, is) in
-    ap (λ n. length (drop n all)) none ∙ long
+one-more-kept kept one capacity count is below room = grind (arith, common_steps)
 
 pub all-made : (made count : ℕ) → made ≡ count → 16 ≤ count → count ≤ 16 → made ≡ 16
 all-made made count is low high = omega arith

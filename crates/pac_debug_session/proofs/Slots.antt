@@ -1,5 +1,5 @@
 -- What slots and checkpoints keep, and a session that goes to it.
-use Rattle.std.proofs.Common.{◌≡◌, ℕ, zero, suc, ◌<◌, ◌≤◌, true, List, [], ◌∷◌, length, map, set, get_or, Option, None, Some}
+use Rattle.std.proofs.Common.{◌≡◌, ℕ, zero, suc, ◌<◌, ◌≤◌, true, List, [], ◌∷◌, length, map, set, get_or, Option, None, Some, rules}
 use Rattle.std.proofs.Common.{sym, ap, subst, ◌∙◌, arith}
 use Rattle.std.proofs.lemmas.List.{map-set, length-set}
 use Rattle.pac_board_course.specs.Stretch.{Stretch}
@@ -11,14 +11,19 @@ use Rattle.pac_board_course.specs.PastStep.{PastStep}
 use Rattle.pac_debug_session.specs.declared.kept.SessionSnapshot.{SessionSnapshot}
 use Rattle.pac_debug_session.specs.declared.kept.SlotContents.{SlotContents}
 use Rattle.pac_debug_session.specs.Inside.{IsStanding, AreSlotsRight}
-use Rattle.pac_debug_session.specs.Keeping.{Ring, mark_of, mark_if, IsKeptAt, IsSlot, AreSlots}
-use Rattle.pac_debug_session.specs.Past.{told_at}
-use Rattle.pac_debug_session.specs.Running.{Setting, now_at}
+use Rattle.pac_debug_session.specs.Keeping.{Ring, mark_of, IsKeptAt, IsSlot, AreSlots}
+use Rattle.pac_debug_session.specs.Running.{Setting}
 use Rattle.pac_debug_session.specs.SessionLaws.{IsSeen, AreSeen}
 use Rattle.pac_debug_session.proofs.Indices.{open-up-to}
 use Rattle.pac_debug_session.proofs.Steppings.{with_board}
 
 -- ---- one slot of them all
+
+pub seen-set : (furthest : ℕ) (marks : List (Option ℕ)) (place : ℕ) (mark : Option ℕ) → AreSeen furthest marks → IsSeen furthest mark
+    → AreSeen furthest (set marks place mark)
+seen-set furthest [] place mark all one = tt
+seen-set furthest (first ∷ more) zero mark all one = (one, all.1)
+seen-set furthest (first ∷ more) (suc place) mark all one = (all.0, seen-set furthest more place mark all.1 one)
 
 module _ (setting : Setting) (furthest : ℕ) where
   slots-set : (slots : List SlotContents) (place : ℕ) (slot : SlotContents) → AreSlots setting slots → IsSlot setting slot
@@ -27,22 +32,10 @@ module _ (setting : Setting) (furthest : ℕ) where
   slots-set (first ∷ more) zero slot all one = (one, all.1)
   slots-set (first ∷ more) (suc place) slot all one = (all.0, slots-set more place slot all.1 one)
 
-  seen-set : (marks : List (Option ℕ)) (place : ℕ) (mark : Option ℕ) → AreSeen furthest marks → IsSeen furthest mark
-      → AreSeen furthest (set marks place mark)
-  seen-set [] place mark all one = tt
-  seen-set (first ∷ more) zero mark all one = (one, all.1)
-  seen-set (first ∷ more) (suc place) mark all one = (all.0, seen-set more place mark all.1 one)
-
   -- a slot that is filled anew
   pub right-set : (slots : List SlotContents) (place : ℕ) (slot : SlotContents) → AreSlotsRight setting furthest slots → IsSlot setting slot
       → IsSeen furthest (mark_of slot) → AreSlotsRight setting furthest (set slots place slot)
-  right-set slots place slot right one seen = record {
-    count = length-set slots place slot ∙ right.count;
-    kept = slots-set slots place slot right.kept one;
-    seen =
-        subst (AreSeen furthest) (sym (map-set mark_of slots place slot))
-        (seen-set (map mark_of slots) place (mark_of slot) right.seen seen);
-  }
+  right-set slots place slot right one seen = grind (arith, length-set, map-set, seen-set, slots-set)
 
   -- the slot of a place
   slot-at : (slots : List SlotContents) (place : ℕ) (slot : SlotContents) → place < length slots → slot ≡ get_or slots place slot →
@@ -72,34 +65,14 @@ module _ (setting : Setting) (furthest : ℕ) where
 
   pub filled-at : (slots : List SlotContents) (place : ℕ) (slot : SlotContents) → place < length slots → slot ≡ get_or slots place slot
       → AreSlotsRight setting furthest slots → slot.filled ≡ true → IsFilled slot
-  filled-at slots place slot less is right filled =
-      let mark : mark_of slot ≡ Some slot.kept.snapshot.now.steps = ap (λ b. mark_if b slot.kept.snapshot.now.steps) filled in
-      record {
-        kept = slot-at slots place slot less is right.kept filled;
-        seen = subst (IsSeen furthest) mark (seen-at slots place slot less is right.seen);
-        mark = mark;
-      }
+  filled-at slots place slot less is right filled = grind (arith, seen-at, slot-at)
 
   -- ---- a session at what was kept
 
   pub stands-at : (now : Moment BoardView) (history : List PastStep) (ring : Ring) (index : ℕ) (kept : SessionSnapshot)
       → IsStanding setting now history furthest ring → IsKeptAt setting index kept → index ≤ furthest
       → IsStanding setting kept.snapshot.now kept.history furthest ring × (kept.snapshot.now.steps ≡ index)
-  stands-at now history ring index kept stands at seen =
-      let opened = open-up-to setting index (λ earlier less. stands.goes earlier (omega arith)) in
-      let steps : kept.snapshot.now.steps ≡ index = ap (λ (m : Moment BoardView). m.steps) at.now ∙ opened.steps in (
-        record {
-          now_is = at.now ∙ ap (now_at setting) (sym steps);
-          within = omega arith;
-          history_is = at.history ∙ ap (λ n. told_at setting n) (sym steps);
-          goes = stands.goes;
-          few = stands.few;
-          enough = stands.enough;
-          all = stands.all;
-          checkpoints = stands.checkpoints;
-        },
-        steps,
-      )
+  stands-at now history ring index kept stands at seen = grind (arith, open-up-to)
 
 -- ---- after what was kept is put back
 
@@ -110,9 +83,7 @@ module _ (switches : ℕ) (script : List Stretch) (board new : BoardValue) (hist
 
   pub standing-there : (ring : Ring) → IsStanding (setting-of board) kept.snapshot.now kept.history furthest ring
       → IsStanding (setting-of new) new.state.now history furthest ring
-  standing-there ring stands =
-      subst (λ (b : BoardValue). IsStanding (setting-of b) b.state.now history furthest ring) (sym board_is)
-      (subst (λ steps. IsStanding (setting-of board) kept.snapshot.now steps furthest ring) (sym history_is) stands)
+  standing-there ring stands = search rules
 
   pub right-there : (slots : List SlotContents) → AreSlotsRight (setting-of board) furthest slots →
       AreSlotsRight (setting-of new) furthest slots

@@ -1,6 +1,5 @@
 -- What a session keeps as it leaves an index, over plain values, and what it sees after steps.
-use Rattle.std.proofs.Common.{◌≡◌, ℕ, ◌+◌, ◌-◌, ◌*◌, ◌==◌, ◌<◌, ◌≤◌, Bool, true, false, if◌then◌else◌, map, Option, None, Some, List, []}
-use Rattle.std.proofs.Common.{◌∷◌, ◌++◌, length, drop, refl, ap, subst, ◌∙◌, arith}
+use Rattle.std.proofs.Common.{◌≡◌, ℕ, ◌+◌, ◌-◌, ◌*◌, ◌<◌, ◌≤◌, Option, List, [], ◌∷◌, ◌++◌, length, drop, subst, arith, rules}
 use Rattle.std.proofs.lemmas.Bool.Decides.{nat_tests}
 use Rattle.std.proofs.lemmas.List.{length-append, length-drop}
 use Rattle.pac_board_course.specs.Stretch.{Stretch}
@@ -9,10 +8,9 @@ use Rattle.pac_board_course.specs.PastStep.{PastStep}
 use Rattle.pac_debug_session.specs.declared.kept.SessionSnapshot.{SessionSnapshot}
 use Rattle.pac_debug_session.specs.declared.kept.SlotContents.{SlotContents}
 use Rattle.pac_debug_session.specs.Inside.{IsStanding, AreSlotsRight}
-use Rattle.pac_debug_session.specs.Keeping.{Ring, mark_of, kept_of, ring_with_checkpoint, ring_after_index, IsKeptAt, AreCheckpoints}
+use Rattle.pac_debug_session.specs.Keeping.{Ring, kept_of, ring_after_index, IsKeptAt, AreCheckpoints}
 use Rattle.pac_debug_session.specs.Motions.{checkpoint_steps, checkpoint_count}
-use Rattle.pac_debug_session.specs.Past.{told_at}
-use Rattle.pac_debug_session.specs.Running.{Setting, now_at}
+use Rattle.pac_debug_session.specs.Running.{Setting}
 use Rattle.pac_debug_session.specs.Session.{SessionValue}
 use Rattle.pac_debug_session.specs.SessionLaws.{IsSeen, AreSeen}
 
@@ -22,11 +20,7 @@ module _ (setting : Setting) where
   pub checkpoints-append : (taken : ℕ) (ks : List SessionSnapshot) (k : SessionSnapshot) → AreCheckpoints setting taken ks
       → IsKeptAt setting (checkpoint_steps * (taken + length ks - checkpoint_count)) k
       → AreCheckpoints setting taken (ks ++ k ∷ [])
-  checkpoints-append taken [] k so_far here = (
-    λ enough. let same : taken + 0 ≡ taken = omega arith in
-        subst (λ n. IsKeptAt setting (checkpoint_steps * (n - checkpoint_count)) k) same here,
-    tt,
-  )
+  checkpoints-append taken [] k so_far here = search rules
   checkpoints-append taken (first ∷ ks) k so_far here =
       let same : taken + length (first ∷ ks) ≡ taken + 1 + length ks = omega arith in (
         so_far.0,
@@ -37,10 +31,7 @@ module _ (setting : Setting) where
   pub checkpoints-more : (taken : ℕ) (ks : List SessionSnapshot) (k : SessionSnapshot) → length ks ≡ checkpoint_count →
       AreCheckpoints setting taken ks
       → IsKeptAt setting (checkpoint_steps * taken) k → AreCheckpoints setting (taken + 1) (drop 1 ks ++ k ∷ [])
-  checkpoints-more taken [] k all so_far here = absurd (omega arith)
-  checkpoints-more taken (first ∷ ks) k all so_far here =
-      let same : taken ≡ taken + 1 + length ks - checkpoint_count = omega arith in
-      checkpoints-append (taken + 1) ks k so_far.1 (subst (λ n. IsKeptAt setting (checkpoint_steps * n) k) same here)
+  checkpoints-more taken ks k all so_far here = grind (arith, checkpoints-append)
 
 -- ---- a session
 
@@ -59,21 +50,16 @@ with_board switches script b far breakpoints slots replayed = record {
 
 -- slots stay right as the session goes further
 seen-later : (furthest later : ℕ) (slot : Option ℕ) → furthest ≤ later → IsSeen furthest slot → IsSeen later slot
-seen-later furthest later None less seen = tt
-seen-later furthest later (Some index) less seen = omega arith
+seen-later furthest later slot less seen = search rules
 
 pub all-seen-later : (furthest later : ℕ) (slots : List (Option ℕ)) → furthest ≤ later → AreSeen furthest slots → AreSeen later slots
 all-seen-later furthest later [] less seen = tt
-all-seen-later furthest later (slot ∷ slots) less seen = (
-  seen-later furthest later slot less seen.0,
-  all-seen-later furthest later slots less seen.1,
-)
+all-seen-later furthest later (slot ∷ slots) less seen = grind (arith, seen-later, all-seen-later furthest later slots less seen.1)
 
 pub right-later : (setting : Setting) (furthest later : ℕ) (slots : List SlotContents) → furthest ≤ later →
     AreSlotsRight setting furthest slots
     → AreSlotsRight setting later slots
-right-later setting furthest later slots less right =
-    record { count = right.count; kept = right.kept; seen = all-seen-later furthest later (map mark_of slots) less right.seen }
+right-later setting furthest later slots less right = grind (arith, all-seen-later)
 
 -- the ring, once its index is left
 pub record IsLeft (setting : Setting) (index furthest : ℕ) (after : Ring) : Type 0 where
@@ -86,29 +72,4 @@ pub record IsLeft (setting : Setting) (index furthest : ℕ) (after : Ring) : Ty
 pub left : (setting : Setting) (board : BoardValue) (history : List PastStep) (furthest : ℕ) (ring : Ring)
     → IsStanding setting board.state.now history furthest ring → board.state.due ≡ nothing_due → board.state.asked ≡ 0
     → IsLeft setting board.state.now.steps furthest (ring_after_index board.state.now.steps ring (kept_of board history))
-left setting board history furthest ring stands nothing unasked = choose (board.state.now.steps == checkpoint_steps * ring.taken) refl
-  where
-    choose : (here : Bool) → (board.state.now.steps == checkpoint_steps * ring.taken) ≡ here
-        → IsLeft setting board.state.now.steps furthest (if here then ring_with_checkpoint ring (kept_of board history) else ring)
-    choose true e =
-        let same : board.state.now.steps ≡ checkpoint_steps * ring.taken = grind (arith, nat_tests) in
-        let within = stands.within in
-        let enough = stands.enough in
-        let all = stands.all in
-        record {
-          few = omega arith;
-          enough = omega arith;
-          past = omega arith;
-          all = omega (arith, length-append (drop 1 ring.kept) (kept_of board history ∷ []), length-drop 1 ring.kept);
-          checkpoints =
-              checkpoints-more setting ring.taken ring.kept (kept_of board history) all stands.checkpoints (record {
-                now = stands.now_is ∙ ap (now_at setting) same;
-                nothing = nothing;
-                unasked = unasked;
-                history = stands.history_is ∙ ap (told_at setting) same;
-              });
-        }
-    choose false e =
-        let within = stands.within in
-        let enough = stands.enough in
-        record { few = stands.few; enough = enough; past = grind (arith, nat_tests); all = stands.all; checkpoints = stands.checkpoints }
+left setting board history furthest ring stands nothing unasked = grind (arith, checkpoints-more, length-append, length-drop, nat_tests)

@@ -19,7 +19,7 @@ use Rattle.pac_board.specs.Calls.{now_after, with_due}
 use Rattle.pac_board.specs.Turns.{way, way_at, board_after_walk}
 use Rattle.pac_board.specs.CallsLaws.{IsOfferRefused}
 use Rattle.pac_board.specs.Access.{Access}
-use Rattle.pac_board.specs.Roads.{HasGoneWatching, IsHeld}
+use Rattle.pac_board.specs.Roads.{HasGoneUntil, IsHeld}
 use Rattle.pac_board.specs.RoadsProofs.{BoardPasses, BoardWatched}
 use Rattle.pac_board.specs.Sinks.{TookAll}
 use Rattle.pac_board.specs.SinksLaws.{by, Cut}
@@ -243,7 +243,7 @@ module _ (stops marks : Option (List ℕ)) (limit : ℕ) (old : BoardValue) (sin
         (watched : BoardWatched marks (with_due old nothing_due) new met)
       where
         abbrev Until : Type 0
-        Until = HasGoneWatching sounding_took (with_due old nothing_due) limit stops met between stop new later
+        Until = HasGoneUntil sounding_took (with_due old nothing_due) limit stops met between stop new later
 
         passes-by : (end m : ℕ) → new.state.now ≡ (way_at old end m).now → PassesPlaces (is_stop stops) end old new
         passes-by end m is =

@@ -2,7 +2,7 @@
 use Rattle.std.specs.Prelude.{◌≡◌, ◌<◌, ◌≤◌, ℕ, ◌+◌, true, false, List, length, Option, None, Some, Result, Ok, Err}
 use Rattle.pac_board.specs.Access.{Access}
 use Rattle.pac_board.specs.Output.{Output}
-use Rattle.pac_board.specs.Roads.{HasGoneWatching}
+use Rattle.pac_board.specs.Roads.{HasGoneUntil}
 use Rattle.pac_board.specs.RoadsProofs.{BoardPasses, BoardWatched}
 use Rattle.pac_board.specs.Sinks.{TookAll}
 use Rattle.pac_board.specs.SinksLaws.{by}
@@ -37,15 +37,15 @@ HasLimit time ticks (Err fault) = (latest < time + ticks) × (fault ≡ TooLong)
 abbrev pub WalksBy : Ended → Option (List ℕ) → (limit : ℕ) (old : BoardValue) → Sounds → Option Stop → Option Access → (new : BoardValue)
     → Sounds → Type 0
 WalksBy TimeOver stops limit old sink stop met new later =
-    HasGoneWatching sounding_took old limit stops met sink stop new later × (stop ≡ None) × (met ≡ None)
+    HasGoneUntil sounding_took old limit stops met sink stop new later × (stop ≡ None) × (met ≡ None)
     × (old.state.now.time < new.state.now.time → is_stop stops new.state.now.regs.pc ≡ false)
 WalksBy AtPlace stops limit old sink stop met new later =
-    HasGoneWatching sounding_took old limit stops met sink stop new later × (stop ≡ None) × (met ≡ None)
+    HasGoneUntil sounding_took old limit stops met sink stop new later × (stop ≡ None) × (met ≡ None)
     × (old.state.now.time < new.state.now.time) × (is_stop stops new.state.now.regs.pc ≡ true)
 WalksBy AtStop stops limit old sink stop met new later =
-    HasGoneWatching sounding_took old limit stops met sink stop new later × ((one : Stop) × (stop ≡ Some one))
+    HasGoneUntil sounding_took old limit stops met sink stop new later × ((one : Stop) × (stop ≡ Some one))
 WalksBy AtAccess stops limit old sink stop met new later =
-    HasGoneWatching sounding_took old limit stops met sink stop new later × (stop ≡ None) × ((one : Access) × (met ≡ Some one))
+    HasGoneUntil sounding_took old limit stops met sink stop new later × (stop ≡ None) × ((one : Access) × (met ≡ Some one))
 WalksBy BufferFull stops limit old sink stop met new later =
     IsWayRefused (by sounding_took sounding_refused) old limit sink new later × (stop ≡ None)
 

@@ -173,7 +173,7 @@ fn walk_on<W: Watch>(
 {
     let begun = board.time();
     let mut nobody = Trail::silent();
-    let went = board.go_watched(limit, stops, &mut nobody, watch, sounds);
+    let went = board.go(limit, stops, &mut nobody, watch, sounds);
     forget(nobody);
     match went {
         Err(_) => (Ended::BufferFull, None),

@@ -5,12 +5,11 @@ ghost use Rattle.pac_lex.specs.Texts.{quoted_text};
 ghost use Rattle.pac_lex.specs.TextsProofs.{closing_length, unquoted_characters, after_character, inside_quotes, characters_of};
 ghost use Rattle.pac_lex.specs.TextsProofs.{one_character};
 
-use pac_heap::Global;
-use std::alloc::AllocError;
+use std::alloc::{AllocError, Allocator};
 
 /// The characters of a text, whose bytes stand here with their quotes: those between the quotes, each
 /// doubled quote as one.
-pub fn characters(alloc: Global, text: &[u8]) -> Result<Vec<u8, Global>, AllocError>
+pub fn characters<A: Allocator>(alloc: A, text: &[u8]) -> Result<Vec<u8, A>, AllocError>
     ensures each { (characters : List ℕ) → text.now ≡ quoted_text characters → IfOk result (λ v. v.items ≡ characters) }
     // The characters, as a function of the bytes.
     ensures exact { IfOk result (λ v. v.items ≡ characters_of text.now) }
@@ -58,7 +57,7 @@ fn inside(text: &[u8]) -> &[u8]
 }
 
 /// Characters with each doubled quote as one.
-fn unquoted(alloc: Global, inside: &[u8]) -> Result<Vec<u8, Global>, AllocError>
+fn unquoted<A: Allocator>(alloc: A, inside: &[u8]) -> Result<Vec<u8, A>, AllocError>
     ensures { IfOk result (λ v. v.items ≡ unquoted_characters inside.now) }
 {
     let mut found = Vec::new(alloc);

@@ -14,7 +14,7 @@ use crate::fault::{LexError, LexFault};
 use crate::number::numeral;
 use crate::quote::closing;
 use crate::token::{Token, TokenKind};
-use pac_heap::Global;
+use std::alloc::Allocator;
 
 /// The most bytes that a source line may have, its ending not counted (this profile).
 pub const LINE_LIMIT: usize = 255;
@@ -24,7 +24,7 @@ const USUAL_TOKENS: usize = 16;
 
 /// The tokens of a line, which stands here without its ending. Blanks and a comment after `;` are
 /// none. Where the line has a fault, the answer is L4, or else the leftmost of L1 to L3.
-pub fn tokens(alloc: Global, line: &[u8]) -> Result<Vec<Token<'_>, Global>, LexError>
+pub fn tokens<A: Allocator>(alloc: A, line: &[u8]) -> Result<Vec<Token<'_>, A>, LexError>
     // What is read is so: the line is these tokens, each in its own bytes, with blanks between them.
     ensures read { IfOk result (λ v. IsRead line.now (views v.items)) }
     // What is so is read, unless memory runs out.
@@ -40,7 +40,7 @@ pub fn tokens(alloc: Global, line: &[u8]) -> Result<Vec<Token<'_>, Global>, LexE
 
 /// What `tokens` answers, by its exact clause alone, from which the others are proved.
 #[tactic(auto, unfolding(crate::specs::Scan::tokens_of))]
-fn checked(alloc: Global, line: &[u8]) -> Result<Vec<Token<'_>, Global>, LexError>
+fn checked<A: Allocator>(alloc: A, line: &[u8]) -> Result<Vec<Token<'_>, A>, LexError>
     ensures { LexingGives (λ v. views v.items) result (tokens_of line.now) }
 {
     if line.len() > LINE_LIMIT {
@@ -50,7 +50,7 @@ fn checked(alloc: Global, line: &[u8]) -> Result<Vec<Token<'_>, Global>, LexErro
 }
 
 /// The tokens of a line of any length.
-fn read(alloc: Global, line: &[u8]) -> Result<Vec<Token<'_>, Global>, LexError>
+fn read<A: Allocator>(alloc: A, line: &[u8]) -> Result<Vec<Token<'_>, A>, LexError>
     ensures { LexingGives (λ v. views v.items) result (scan 0 line.now) }
 {
     let mut found = Vec::with_capacity(alloc, USUAL_TOKENS)?;

@@ -21,7 +21,8 @@ fn put_lines<W: Out>(
     lines: &[Line],
     source: &[u8],
 ) -> Result<(), WriteFault>
-    ensures { Gathers W.took W.refused pending.old file.old (lines_from 1 lines.now (text_lines source.now)) result pending.new file.new }
+    ensures { Gathers W.took W.refused pending.old file.old
+        (lines_from 1 lines.now (text_lines source.now)) result pending.new file.new }
 {
     let mut rest = source;
     let mut lines_left = lines;
@@ -46,7 +47,8 @@ fn put_symbol<W: Out>(
     name: &[u8],
     number: i32,
 ) -> Result<(), WriteFault>
-    ensures { Gathers W.took W.refused pending.old file.old (symbol_row (name.now, number)) result pending.new file.new }
+    ensures { Gathers W.took W.refused pending.old file.old (symbol_row (name.now, number)) result
+        pending.new file.new }
 {
     let mut digits = Buffer::new();
     let pieces: [&[u8]; 4] = [name, b" ", digits.format(number).as_bytes(), b"\n"];
@@ -59,7 +61,8 @@ fn put_symbols<W: Out>(
     file: &mut Counted<W>,
     symbols: &Symbols,
 ) -> Result<(), WriteFault>
-    ensures { Gathers W.took W.refused pending.old file.old (symbol_rows symbols.now) result pending.new file.new }
+    ensures { Gathers W.took W.refused pending.old file.old (symbol_rows symbols.now) result
+        pending.new file.new }
 {
     pending.put(file, b"SYMBOLS\n")?;
     for place in 0..symbols.len() {
@@ -79,7 +82,8 @@ fn put_listing<W: Out>(
     program: &Program,
     source: &[u8],
 ) -> Result<(), WriteFault>
-    ensures { Gathers W.took W.refused pending.old file.old (listing program.now source.now) result pending.new file.new }
+    ensures { Gathers W.took W.refused pending.old file.old (listing program.now source.now) result
+        pending.new file.new }
 {
     put_lines(pending, file, program.lines(), source)?;
     put_symbols(pending, file, program.symbols())

@@ -22,7 +22,8 @@ fn put_first_row<W: Out>(
     columns: [u8; 8],
     text: &[u8],
 ) -> Result<(), WriteFault>
-    ensures { Gathers W.took W.refused pending.old file.old (first_row number address columns text.now) result pending.new file.new }
+    ensures { Gathers W.took W.refused pending.old file.old
+        (first_row number address columns text.now) result pending.new file.new }
 {
     let pieces: [&[u8]; 3] = [
         &row_head(five_digits(number), address, columns),
@@ -35,7 +36,8 @@ fn put_first_row<W: Out>(
 /// What stands before the text in a first row, with a blank after each piece.
 #[inline]
 fn row_head(digits: [u8; 5], address: [u8; 4], columns: [u8; 8]) -> [u8; 20]
-    ensures { result ≡ joined_pieces (digits ∷ codes " " ∷ address ∷ codes " " ∷ columns ∷ codes " " ∷ []) }
+    ensures { result ≡ joined_pieces (digits ∷ codes " " ∷ address ∷ codes " " ∷ columns ∷ codes " "
+        ∷ []) }
 {
     let [n0, n1, n2, n3, n4] = digits;
     let [a0, a1, a2, a3] = address;
@@ -52,7 +54,8 @@ fn put_further_row<W: Out>(
     at: u16,
     bytes: &[u8],
 ) -> Result<(), WriteFault>
-    ensures { Gathers W.took W.refused pending.old file.old (further_row at bytes.now) result pending.new file.new }
+    ensures { Gathers W.took W.refused pending.old file.old (further_row at bytes.now) result
+        pending.new file.new }
 {
     let pieces: [&[u8]; 5] = [b"      ", &hex_word(at), b" ", &byte_columns(bytes), b"\n"];
     pending.put_pieces(file, &pieces)
@@ -77,7 +80,8 @@ fn put_further_rows<W: Out>(
     first: u16,
     bytes: &[u8],
 ) -> Result<(), WriteFault>
-    ensures { Gathers W.took W.refused pending.old file.old (all_rows first bytes.now) result pending.new file.new }
+    ensures { Gathers W.took W.refused pending.old file.old (all_rows first bytes.now) result
+        pending.new file.new }
 {
     let mut at = first;
     let mut rest = bytes;
@@ -98,7 +102,8 @@ fn put_item<W: Out>(
     bytes: &[u8],
     text: &[u8],
 ) -> Result<(), WriteFault>
-    ensures { Gathers W.took W.refused pending.old file.old (item_rows number at bytes.now text.now) result pending.new file.new }
+    ensures { Gathers W.took W.refused pending.old file.old (item_rows number at bytes.now text.now)
+        result pending.new file.new }
 {
     if bytes.is_empty() {
         return put_first_row(pending, file, number, *b"    ", *b"        ", text);
@@ -123,7 +128,8 @@ pub(crate) fn put_line<W: Out>(
     line: &Line,
     text: &[u8],
 ) -> Result<(), WriteFault>
-    ensures { Gathers W.took W.refused pending.old file.old (line_rows number line.now text.now) result pending.new file.new }
+    ensures { Gathers W.took W.refused pending.old file.old (line_rows number line.now text.now)
+        result pending.new file.new }
 {
     match line {
         Line::Blank => put_first_row(pending, file, number, *b"    ", *b"        ", text),

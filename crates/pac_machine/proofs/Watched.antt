@@ -111,7 +111,8 @@ met-first map bus done (Write address byte ∷ left) there none =
     here (watches_writes (Some bus.marks.now) address) refl
     (met-first map (watched_after_action bus (Write address byte)) (done ++ Write address byte ∷ []) left after_is)
   where
-    kept : (b : Bool) → watches_writes (Some bus.marks.now) address ≡ b → (watched_after_action bus (Write address byte)).met ≡ cond b (Some (write_over address byte bus.map.now)) None
+    kept : (b : Bool) → watches_writes (Some bus.marks.now) address ≡ b
+        → (watched_after_action bus (Write address byte)).met ≡ cond b (Some (write_over address byte bus.map.now)) None
     kept true is =
         ap (λ b. cond (b && not (is_some bus.met)) (Some (write_over address byte bus.map.now)) bus.met) is
         ∙ ap (λ (m : Option Access). cond (not (is_some m)) (Some (write_over address byte bus.map.now)) m) none
@@ -128,7 +129,8 @@ met-first map bus done (Write address byte ∷ left) there none =
     here : (b : Bool) → watches_writes (Some bus.marks.now) address ≡ b
         → ((watched_after_action bus (Write address byte)).met ≡ None → (after_all (watched_after_action bus (Write address byte)) left).met
         ≡ first_write (seen_by map) (Some bus.marks.now) (done ++ Write address byte ∷ []) left)
-        → (after_all (watched_after_action bus (Write address byte)) left).met ≡ first_write (seen_by map) (Some bus.marks.now) done (Write address byte ∷ left)
+        → (after_all (watched_after_action bus (Write address byte)) left).met
+        ≡ first_write (seen_by map) (Some bus.marks.now) done (Write address byte ∷ left)
     here true is more =
         met-stays (watched_after_action bus (Write address byte)) (write_over address byte bus.map.now) left (kept true is)
         ∙ ap (λ before. Some (write_over address byte before)) there ∙ sym (found true is)
@@ -184,7 +186,8 @@ pub stop-does-nothing : (self mid : BoardStanding) (once : Once) (stop : Stop) (
 stop-does-nothing self mid once stop marks acts is = here (part_of self) (sym is ∙ acts.once_is)
   where
     here : (h : CpuStep) → Stopped stop ≡ once_of_step h
-        → watched_in (surroundings (by_view self.set) self.now.board) marks self.now.regs ((by_view self.set).request self.now.board) h ≡ None
+        → watched_in (surroundings (by_view self.set) self.now.board) marks self.now.regs ((by_view self.set).request self.now.board) h
+        ≡ None
     here (Steps regs actions ticks kind) told = absurd (cc)
     here (Stops other) told = refl
 
@@ -263,6 +266,23 @@ module _ (set : Parts) (marks : Option (List ℕ)) (next : Moment BoardView → 
           let past : one.count ≤ n = grind (arith, nat_tests) in
           subst (λ (m : Moment BoardView). watched_at set marks m ≡ met) (there n past) (more.last (n - one.count) (omega arith))
 
+-- where nothing is watched, nothing is met
+pub unwatched-met : (set : Parts) (marks : Option (List ℕ)) (next : Moment BoardView → Next BoardView) (from : Moment BoardView) (steps : ℕ)
+    (met : Option Access) → marks ≡ None → IsWatched set marks next from steps met → met ≡ None
+unwatched-met set marks next from steps met none watched = here (nat_le steps from.steps) refl
+  where
+    here : (b : Bool) → nat_le steps from.steps ≡ b → met ≡ None
+    here true e = watched.none (grind (arith, nat_tests))
+    here false e =
+        let more : from.steps < steps = grind (arith, nat_tests) in
+        let n : ℕ = steps - from.steps - 1 in
+        let same : from.steps + suc n ≡ steps = omega arith in
+        let now = stepped next from n in
+        let ask = by_view set in
+        let seen = surroundings ask now.board in
+        sym (watched.last n same) ∙ ap (λ (marks : Option (List ℕ)). watched_at set marks now) none
+        ∙ unwatched seen now.regs (ask.request now.board) (cpu_step seen now.regs (ask.request now.board))
+
 -- ---- halted steps in one go
 
 pub waits-watched : (old : BoardStanding) (until n : ℕ) (marks : Option (List ℕ)) → is_waiting old ≡ true
@@ -284,7 +304,8 @@ waits-watched old until n marks waiting soon = record {
         → watched_in seen marks regs ((by_view old.set).request old.now.board)
         (cpu_step seen regs ((by_view old.set).request old.now.board)) ≡ None
     still regs halted none =
-        ap (watched_in seen marks regs ((by_view old.set).request old.now.board)) (halted-part seen regs ((by_view old.set).request old.now.board) halted none)
+        ap (watched_in seen marks regs ((by_view old.set).request old.now.board))
+        (halted-part seen regs ((by_view old.set).request old.now.board) halted none)
 
     quiet : (m : ℕ) → m < n → watched_at old.set marks (stepped (eventless_step (by_view old.set)) old.now m) ≡ None
     quiet zero less = still old.now.regs facts.0 facts.1

@@ -204,7 +204,7 @@ struct WatchedBus<'a> {
 }
 
 impl WatchedBus<'_> {
-    /// Does one step of the processor over it.
+    /// Does one step of the processor over it, each instruction as a call.
     #[inline(always)]
     fn step(&mut self, cpu: &mut Cpu, request: Option<u8>) -> Once
         ensures same { self.new.map.ghost_name ≡ self.old.map.ghost_name }
@@ -216,11 +216,11 @@ impl WatchedBus<'_> {
             ≡ first_write (surroundings_of map_byte_at map_input_at map_after_action self.old.map.now) (Some self.old.marks.now) []
             (actions_of (cpu_step (surroundings_of map_byte_at map_input_at map_after_action self.old.map.now) cpu.old request)) }
     {
-        cpu.step(self, request)
+        cpu.step_apart(self, request)
     }
 
     /// Keeps a write that comes, where writes to its address are watched, and nothing was kept before.
-    #[inline(always)]
+    #[inline(never)]
     fn look(&mut self, address: u16, byte: u8)
         ensures { self.new ≡ record self.old { met = looked_at self.old address byte } }
     {

@@ -34,7 +34,7 @@ pub enum BusPlace {
     Coordinate(u8),
 }
 
-/// A place of the RAM page, whose bytes are counted from 0 to 4,095.
+/// A place of the RAM page, whose bytes are counted from 0 to 4,095. The work RAM is asked for first: stack and variables lie there.
 #[inline(always)]
 fn ram_place(offset: u16) -> BusPlace
     requires { offset < 0x1000 }
@@ -42,14 +42,14 @@ fn ram_place(offset: u16) -> BusPlace
     ensures in_range { place_proofs.IsPlaceInRange result }
     ensures silent { is_of_sound result ≡ false }
 {
-    if offset < 0x400 {
+    if offset >= 0xC00 {
+        BusPlace::Work(offset - 0xC00)
+    } else if offset < 0x400 {
         BusPlace::Tile(offset)
     } else if offset < 0x800 {
         BusPlace::Colour(offset - 0x400)
-    } else if offset < 0xC00 {
-        BusPlace::Nothing
     } else {
-        BusPlace::Work(offset - 0xC00)
+        BusPlace::Nothing
     }
 }
 

@@ -1,24 +1,20 @@
 -- An image that is made of pieces of one length, of which some are written over.
-use Rattle.std.proofs.Common.{◌≡◌, ◌≢◌, ℕ, zero, suc, ◌+◌, ◌-◌, ◌*◌, ◌%◌, ◌<◌, ◌≤◌, max, List, [], ◌∷◌, ◌++◌}
-use Rattle.std.proofs.Common.{length, take, drop, get_or, set}
-use Rattle.std.proofs.Common.{slice_index, refl, sym, ap, subst, ◌∙◌, arith, append_assoc, append-nil, EachIndex}
-use Rattle.std.proofs.Common.{◌↔◌, ◌^◌, IsTrue, eqb}
-use Rattle.std.proofs.Common.{below_more, get_or-set_other, get_or-set_same, length-append, length-take, length-drop}
+use Rattle.std.proofs.Common.{◌≡◌, ℕ, zero, suc, ◌+◌, ◌*◌, ◌<◌, ◌≤◌, max, List, [], ◌∷◌, ◌++◌, rules, length, take, drop, get_or, set}
+use Rattle.std.proofs.Common.{slice_index, refl, sym, ap, subst, ◌∙◌, arith, append_assoc, append-nil, EachIndex, ◌↔◌, ◌^◌, IsTrue, eqb}
+use Rattle.std.proofs.Common.{length-append, length-take, length-drop}
 use Rattle.std.proofs.Math.Seq.{take-append-add, drop-append-add, drop-cons}
 use Rattle.std.proofs.lemmas.Bool.{cases_lt, eqb-true}
 use Rattle.std.proofs.lemmas.List.{take_at, take_all, take-take, drop-take, drop-drop, take-append-drop, set_split, length-take-le}
 use Rattle.std.proofs.lemmas.List.{get_or-take, get_or-drop, get_or_append_left, get_or-append_right}
 use Rattle.std.proofs.lemmas.List.{flat_map_more, take_more, same_lists, get_or_default}
 use Rattle.std.proofs.lemmas.Slice.{take-put_mid}
-use Rattle.std.proofs.lemmas.Nat.{from_le_bytes-to_le_bytes_8}
 use Rattle.std.proofs.lemmas.Nat.Bits.{bit_at_or, bit_at_xor, bit_at-zero, bit_at-lt, same_from_bits}
-use mathlib.Core.Logic.{inl, inr}
 use borrow.Rule.Slice.PartMut.{put_mid}
 use Rattle.std.specs.Int.{w64, to_le_bytes, from_le_bytes, bit_at}
 use Rattle.std.specs.Int.Bits.{xor_self}
 use Rattle.std.specs.Int.RustNames.{bit_or, bit_xor}
 use Rattle.std.specs.List.{flat_map}
-use Rattle.std.proofs.lemmas.Grind.{flat_map-append}
+use Rattle.std.proofs.lemmas.Grind.{flat_map-append, common_steps}
 use Rattle.pac_picture.specs.State.{IsPicture}
 use Rattle.pac_media.specs.Images.{palette_colour, header, ppm_of}
 use Rattle.pac_media.specs.Drawn.{AreColours, IsDrawnTo}
@@ -26,9 +22,7 @@ use Rattle.pac_media.specs.Drawn.{AreColours, IsDrawnTo}
 -- a list in two parts
 take-more : {X : Type 0} (n m : ℕ) (xs : List X) → take (n + m) xs ≡ take n xs ++ take m (drop n xs)
 take-more n m xs =
-    let short : n ≤ n + m = omega arith in
-    sym (take-append-drop n (take (n + m) xs))
-    ∙ (ap (λ front. front ++ drop n (take (n + m) xs)) (take-take n (n + m) xs short) ∙ ap (λ back. take n xs ++ back) (drop-take n m xs))
+    let short : n ≤ n + m = omega arith in cc (take-append-drop n (take (n + m) xs), take-take n (n + m) xs short, drop-take n m xs)
 
 -- what each of these gives has one length
 abbrev pub ArePieces : {X Y : Type 0} → (X → List Y) → ℕ → X → List X → Type 0
@@ -42,17 +36,15 @@ pub length-pieces : {X Y : Type 0} (f : X → List Y) (size : ℕ) (other : X) (
     length (flat_map f xs) ≡ size * length xs
 length-pieces f size other [] each = omega arith
 length-pieces f size other (x ∷ xs) each =
-    let first : length (f x) ≡ size = each 0 (omega arith) in
     let rest = length-pieces f size other xs (rest-pieces f size other x xs each) in
-    omega (arith, length-append (f x) (flat_map f xs), first, rest)
+    omega (arith, length-append (f x) (flat_map f xs), each 0 (omega arith), rest)
 
 take-pieces : {X Y : Type 0} (f : X → List Y) (size : ℕ) (other : X) (xs : List X) (count : ℕ) → ArePieces f size other xs →
     count ≤ length xs → take (size * count) (flat_map f xs) ≡ flat_map f (take count xs)
 take-pieces f size other xs zero each fits = let none : size * 0 ≡ 0 = omega arith in rw none refl
 take-pieces f size other [] (suc count) each fits = absurd (omega (arith, fits))
 take-pieces f size other (x ∷ xs) (suc count) each fits =
-    let first : length (f x) ≡ size = each 0 (omega arith) in
-    let sum : size * suc count ≡ length (f x) + size * count = omega (arith, first) in
+    let sum : size * suc count ≡ length (f x) + size * count = omega (arith, each 0 (omega arith)) in
     let rest = take-pieces f size other xs count (rest-pieces f size other x xs each) (omega (arith, fits)) in
     rw sum (take-append-add (f x) (flat_map f xs) (size * count) ∙ ap (λ all. f x ++ all) rest)
 
@@ -61,8 +53,7 @@ drop-pieces : {X Y : Type 0} (f : X → List Y) (size : ℕ) (other : X) (xs : L
 drop-pieces f size other xs zero each fits = let none : size * 0 ≡ 0 = omega arith in rw none refl
 drop-pieces f size other [] (suc count) each fits = absurd (omega (arith, fits))
 drop-pieces f size other (x ∷ xs) (suc count) each fits =
-    let first : length (f x) ≡ size = each 0 (omega arith) in
-    let sum : size * suc count ≡ length (f x) + size * count = omega (arith, first) in
+    let sum : size * suc count ≡ length (f x) + size * count = omega (arith, each 0 (omega arith)) in
     let rest = drop-pieces f size other xs count (rest-pieces f size other x xs each) (omega (arith, fits)) in
     rw sum (drop-append-add (f x) (flat_map f xs) (size * count) ∙ rest)
 
@@ -74,26 +65,15 @@ put-pieces f size other xs ys at count each fits =
     let before = take-pieces f size other xs at each (omega (arith, fits)) in
     let after : drop (size * count) (drop (size * at) (flat_map f xs)) ≡ flat_map f (drop count (drop at xs)) =
     drop-drop (size * count) (size * at) (flat_map f xs)
-    ∙ (ap (λ n. drop n (flat_map f xs)) both
-    ∙ (drop-pieces f size other xs (at + count) each fits ∙ ap (flat_map f) (sym (drop-drop count at xs)))) in
-    ap (λ front. front ++ (flat_map f ys ++ drop (size * count) (drop (size * at) (flat_map f xs)))) before
-    ∙ (ap (λ back. flat_map f (take at xs) ++ (flat_map f ys ++ back)) after
-    ∙ (ap (λ back. flat_map f (take at xs) ++ back) (sym (flat_map-append f ys (drop count (drop at xs))))
-    ∙ sym (flat_map-append f (take at xs) (ys ++ drop count (drop at xs)))))
+    ∙ (cc (both, drop-pieces f size other xs (at + count) each fits, drop-drop count at xs)) in
+    grind (arith, flat_map-append)
 
 -- colour numbers
 abbrev AreNumbers : List ℕ → Type 0
 AreNumbers numbers = EachIndex numbers (λ x. slice_index numbers x < 16)
 
 numbers-append : (xs ys : List ℕ) → AreNumbers xs → AreNumbers ys → AreNumbers (xs ++ ys)
-numbers-append xs ys one other k inside =
-    let sum = length-append xs ys in
-    elim (cases_lt k (length xs)) [
-      | inl first ↦ rw (get_or_append_left xs ys 0 k first) (one k first)
-      | inr later ↦
-          rw (get_or-append_right xs ys (length xs) k 0 refl later)
-          (other (k - length xs) (omega (arith, inside, sum, later)))
-    ]
+numbers-append xs ys one other k inside = let sum = length-append xs ys in grind (arith, cases_lt, get_or-append_right, get_or_append_left)
 
 numbers-take : (n : ℕ) (xs : List ℕ) → AreNumbers xs → AreNumbers (take n xs)
 numbers-take n xs all k inside =
@@ -102,9 +82,7 @@ numbers-take n xs all k inside =
     rw (get_or-take n xs k 0 first) (all k (omega (arith, inside, long)))
 
 numbers-drop : (n : ℕ) (xs : List ℕ) → AreNumbers xs → AreNumbers (drop n xs)
-numbers-drop n xs all k inside =
-    let long = length-drop n xs in
-    rw (get_or-drop n xs k 0) (all (n + k) (omega (arith, inside, long)))
+numbers-drop n xs all k inside = rw (get_or-drop n xs k 0) (all (n + k) (omega (arith, inside, length-drop n xs)))
 
 -- the colours of a line have three bytes each
 pub line-pieces : (palette : List (List ℕ)) (numbers : List ℕ) → AreColours palette → EachIndex numbers (λ x. slice_index numbers x < 16) →
@@ -113,18 +91,7 @@ line-pieces palette numbers three below k inside = three (get_or numbers k 0) (b
 
 -- a part written over by another of its length
 put-long : (at part : ℕ) (xs ys : List ℕ) → at + part ≤ length xs → length ys ≡ part → length (put_mid at part xs ys) ≡ length xs
-put-long at part xs ys fits long =
-    let after = drop part (drop at xs) in
-    omega (
-      arith,
-      length-append (take at xs) (ys ++ after),
-      length-append ys after,
-      length-take at xs,
-      length-drop part (drop at xs),
-      length-drop at xs,
-      fits,
-      long,
-    )
+put-long at part xs ys fits long = grind (arith, common_steps)
 
 -- a block of a line drawn again and kept
 pub block-drawn : (palette : List (List ℕ)) (numbers pixels kept block piece : List ℕ) (start part size : ℕ) → length numbers ≡ 288 →
@@ -139,8 +106,7 @@ block-drawn palette numbers pixels kept block piece start part size long same in
     let within : start + 16 ≤ length kept = omega (arith, same, inside) in
     let fits : start ≤ length kept = omega (arith, within) in
     let stop : start + 16 ≡ start + length block = omega (arith, whole) in
-    let block_below : AreNumbers block =
-    subst AreNumbers (sym is) (numbers-take 16 (drop start numbers) (numbers-drop start numbers was.new)) in
+    let block_below : AreNumbers block = subst AreNumbers (sym is) (numbers-take 16 _ (numbers-drop start numbers was.new)) in
     let wide : length piece ≡ part =
     ap length coloured ∙ (length-pieces f 3 0 block (line-pieces palette block was.colours block_below) ∙ omega (arith, whole, is_part)) in
     let room : 3 * start + part ≤ length pixels = omega (arith, inside, is_part, was.size) in
@@ -150,41 +116,25 @@ block-drawn palette numbers pixels kept block piece start part size long same in
       size = put-long (3 * start) part pixels piece room wide ∙ was.size;
       new = was.new;
       below = subst AreNumbers (sym put)
-          (numbers-append (take start kept) (block ++ drop 16 (drop start kept)) (numbers-take start kept was.below)
-          (numbers-append block (drop 16 (drop start kept)) block_below
+          (numbers-append _ _ (numbers-take start kept was.below) (numbers-append block (drop 16 (drop start kept)) block_below
           (numbers-drop 16 (drop start kept) (numbers-drop start kept was.below))));
       drawn = ap (λ n. put_mid (3 * start) n pixels piece) threes
-          ∙ (ap (λ (all : List ℕ). put_mid (3 * start) (3 * 16) all piece) was.drawn
-          ∙ (ap (λ (one : List ℕ). put_mid (3 * start) (3 * 16) (flat_map f kept) one) coloured
-          ∙ (put-pieces f 3 0 kept block start 16 (line-pieces palette kept was.colours was.below) within ∙ ap (flat_map f) (sym put))));
-      same = ap (take (start + 16)) put
-          ∙ (take-put_mid start 16 kept block (start + 16) stop fits
-          ∙ (ap (λ front. front ++ block) was.same
-          ∙ (ap (λ back. take start numbers ++ back) is ∙ sym (take-more start 16 numbers))));
+          ∙ (cc (was.drawn, coloured, put-pieces f 3 0 kept block start 16 (line-pieces palette kept was.colours was.below) within, put));
+      same = grind (arith, take-more, take-put_mid);
     }
 
 -- a part of a line that is the same
 pub part-same : (palette : List (List ℕ)) (numbers pixels kept : List ℕ) (start count : ℕ) →
     take count (drop start numbers) ≡ take count (drop start kept) → IsDrawnTo palette start numbers pixels kept →
     IsDrawnTo palette (start + count) numbers pixels kept
-part-same palette numbers pixels kept start count equal was = record {
-  colours = was.colours;
-  size = was.size;
-  new = was.new;
-  below = was.below;
-  drawn = was.drawn;
-  same = take-more start count kept
-      ∙ (ap (λ front. front ++ take count (drop start kept)) was.same
-      ∙ (ap (λ back. take start numbers ++ back) (sym equal) ∙ sym (take-more start count numbers)));
-}
+part-same palette numbers pixels kept start count equal was = grind (arith, take-more)
 
 -- all of a line
 pub all-kept : (palette : List (List ℕ)) (numbers pixels kept : List ℕ) (count : ℕ) → count ≡ 288 → length numbers ≡ 288 →
     IsDrawnTo palette count numbers pixels kept → kept ≡ numbers
 all-kept palette numbers pixels kept count all long is =
     let pieces = length-pieces (palette_colour palette) 3 0 kept (line-pieces palette kept is.colours is.below) in
-    let same : length pixels ≡ 3 * length kept = ap length is.drawn ∙ pieces in
-    let one : length kept ≤ count = omega (arith, all, same, is.size) in
+    let one : length kept ≤ count = omega (arith, all, ap length is.drawn ∙ pieces, is.size) in
     let other : length numbers ≤ count = omega (arith, all, long) in
     sym (take_all count kept one) ∙ (is.same ∙ take_all count numbers other)
 
@@ -194,10 +144,7 @@ pub record IsWord (word : ℕ) (numbers : List ℕ) : Type 0 where
   pub back : from_le_bytes w64 numbers ≡ word
 
 pub is-word : (word : ℕ) (numbers : List ℕ) → word < 2 ^ 64 → to_le_bytes w64 word ≡ numbers → IsWord word numbers
-is-word word numbers fits read = record {
-  bytes = read;
-  back = sym (ap (from_le_bytes w64) read) ∙ from_le_bytes-to_le_bytes_8 word fits;
-}
+is-word word numbers fits read = search rules
 
 -- 32 numbers by their blocks
 in-blocks : (start : ℕ) (xs : List ℕ) → take 32 (drop start xs)
@@ -210,15 +157,12 @@ in-blocks start xs =
     (ap (take 24) (drop-drop 8 start xs)
     ∙ (take-more 8 16 (drop (start + 8) xs)
     ∙ ap (λ rest. take 8 (drop (start + 8) xs) ++ rest)
-    (ap (take 16) (drop-drop 8 (start + 8) xs ∙ ap (λ n. drop n xs) second)
-    ∙ (take-more 8 8 (drop (start + 16) xs)
-    ∙ ap (λ rest. take 8 (drop (start + 16) xs) ++ take 8 rest) (drop-drop 8 (start + 16) xs ∙ ap (λ n. drop n xs) third)))))
+    (cc (drop-drop 8 (start + 8) xs, second, take-more 8 8 (drop (start + 16) xs), drop-drop 8 (start + 16) xs, third))))
 
 parts-same : (one other : List ℕ) (start : ℕ) → take 8 (drop start one) ≡ take 8 (drop start other) →
     take 8 (drop (start + 8) one) ≡ take 8 (drop (start + 8) other) → take 8 (drop (start + 16) one) ≡ take 8 (drop (start + 16) other) →
     take 8 (drop (start + 24) one) ≡ take 8 (drop (start + 24) other) → take 32 (drop start one) ≡ take 32 (drop start other)
-parts-same one other start first second third fourth =
-    in-blocks start one ∙ (rw (first, second, third, fourth) refl ∙ sym (in-blocks start other))
+parts-same one other start first second third fourth = grind (arith, in-blocks)
 
 -- what four pairs of words tell
 or-none : (a b : ℕ) → bit_or a b ≡ 0 → (a ≡ 0) × (b ≡ 0)
@@ -226,35 +170,27 @@ or-none a b none =
     let each : (i : ℕ) → (bit_at a i ≡ 0) × (bit_at b i ≡ 0) =
     λ i.
     let joined : bit_at (bit_or a b) i ≡ max (bit_at a i) (bit_at b i) = bit_at_or a b i in
-    let zeros : bit_at (bit_or a b) i ≡ 0 = ap (λ n. bit_at n i) none ∙ bit_at-zero i in
-    (omega (arith, joined, zeros), omega (arith, joined, zeros)) in
+    (omega (arith, joined), omega (arith, joined)) in
     (same_from_bits a 0 (λ i. (each i).0 ∙ sym (bit_at-zero i)), same_from_bits b 0 (λ i. (each i).1 ∙ sym (bit_at-zero i)))
 
 xor-none : (a b : ℕ) → bit_xor a b ≡ 0 → a ≡ b
 xor-none a b none =
     same_from_bits a b (λ i.
-    let joined : bit_at (bit_xor a b) i ≡ (bit_at a i + bit_at b i) % 2 = bit_at_xor a b i in
-    let zeros : bit_at (bit_xor a b) i ≡ 0 = ap (λ n. bit_at n i) none ∙ bit_at-zero i in
-    omega (arith, joined, zeros, bit_at-lt a i, bit_at-lt b i))
+    omega (arith, bit_at_xor a b i, bit_at-lt a i, bit_at-lt b i))
 
 -- eight of 32 numbers
 part-of : (place start before rest : ℕ) (xs : List ℕ) → place ≡ start + before → before + rest ≡ 32 → 8 ≤ rest →
     take 8 (drop place xs) ≡ take 8 (drop before (take 32 (drop start xs)))
 part-of place start before rest xs is sum within =
-    ap (λ n. take 8 (drop n xs)) is
-    ∙ (ap (take 8) (sym (drop-drop before start xs))
-    ∙ (sym (take-take 8 rest (drop before (drop start xs)) within)
-    ∙ ap (take 8) (sym (ap (λ n. drop before (take n (drop start xs))) (sym sum) ∙ drop-take before rest (drop start xs)))))
+    cc (is, drop-drop before start xs, take-take 8 rest (drop before (drop start xs)) within, sum, drop-take before rest (drop start xs))
 
 same-word : (word other place start before rest : ℕ) (xs ys : List ℕ) → place ≡ start + before → before + rest ≡ 32 → 8 ≤ rest →
     IsWord word (take 8 (drop place xs)) → IsWord other (take 8 (drop place ys)) → take 32 (drop start xs) ≡ take 32 (drop start ys) →
     bit_xor word other ≡ 0
 same-word word other place start before rest xs ys is sum within one also equal =
     let parts : take 8 (drop place xs) ≡ take 8 (drop place ys) =
-    part-of place start before rest xs is sum within
-    ∙ (ap (λ all. take 8 (drop before all)) equal ∙ sym (part-of place start before rest ys is sum within)) in
-    let same : word ≡ other = sym one.back ∙ (ap (from_le_bytes w64) parts ∙ also.back) in
-    ap (λ n. bit_xor n other) same ∙ xor_self other
+    cc (part-of place start before rest xs is sum within, equal, part-of place start before rest ys is sum within) in
+    ap (λ n. bit_xor n other) (sym one.back ∙ (ap (from_le_bytes w64) parts ∙ also.back)) ∙ xor_self other
 
 pub four-same : (one other : List ℕ) (start a b c d p q r s : ℕ) →
     IsWord a (take 8 (drop start one)) → IsWord p (take 8 (drop start other)) →
@@ -286,17 +222,15 @@ pub picture-pieces : (palette lines : List (List ℕ)) → AreColours palette �
 picture-pieces palette lines three picture y inside =
     let line = get_or lines y [] in
     let high : y < 224 = omega (arith, inside, picture.high) in
-    let wide : length line ≡ 288 = picture.wide y high in
     let long = length-pieces (palette_colour palette) 3 0 line (line-pieces palette line three (λ x _. picture.below x y)) in
-    omega (arith, long, wide)
+    omega (arith, long)
 
 pub image-length : (palette lines : List (List ℕ)) → AreColours palette → IsPicture lines → length (ppm_of lines palette) ≡ 193551
 unfolding ppm_of
 image-length palette lines three picture =
     let pixels = flat_map (flat_map (palette_colour palette)) lines in
     let long = length-pieces (flat_map (palette_colour palette)) 864 [] lines (picture-pieces palette lines three picture) in
-    let start : length header ≡ 15 = refl in
-    omega (arith, length-append header pixels, long, start, picture.high)
+    omega (arith, length-append header pixels, long, picture.high)
 
 -- the pixels of a line in an image
 pub line-part : (palette lines : List (List ℕ)) (y : ℕ) → AreColours palette → IsPicture lines → y < 224 →
@@ -309,8 +243,7 @@ line-part palette lines y three picture below =
     let fits : y ≤ length lines = omega (arith, inside) in
     let long : length (f (get_or lines y [])) ≡ 864 = each y inside in
     let dropped : drop (15 + 864 * y) (header ++ flat_map f lines) ≡ f (get_or lines y []) ++ flat_map f (drop (suc y) lines) =
-    drop-append-add header (flat_map f lines) (864 * y)
-    ∙ (drop-pieces f 864 [] lines y each fits ∙ ap (flat_map f) (drop-cons lines y [] inside)) in
+    cc (drop-append-add header (flat_map f lines) (864 * y), drop-pieces f 864 [] lines y each fits, drop-cons lines y [] inside) in
     ap (take 864) dropped ∙ take_at (f (get_or lines y [])) (flat_map f (drop (suc y) lines)) 864 long
 
 -- a line written over in an image
@@ -324,24 +257,14 @@ line-drawn palette lines image pixels numbers y part three picture below is draw
     let each = picture-pieces palette lines three picture in
     let inside : y < length lines = omega (arith, below, picture.high) in
     let room : y + 1 ≤ length lines = omega (arith, inside) in
-    let one : 864 * 1 ≡ 864 = omega arith in
     let next : y + 1 ≡ suc y = omega arith in
     let piece : pixels ≡ flat_map f (numbers ∷ []) = coloured ∙ sym (append-nil (f numbers)) in
     let put = put-pieces f 864 [] lines (numbers ∷ []) y 1 each room in
     let front : take (15 + 864 * y) (header ++ all) ≡ header ++ take (864 * y) all = take-append-add header all (864 * y) in
     let back : drop (15 + 864 * y) (header ++ all) ≡ drop (864 * y) all = drop-append-add header all (864 * y) in
-    let moved : put_mid (15 + 864 * y) 864 (header ++ all) pixels ≡ header ++ put_mid (864 * y) 864 all pixels =
-    ap (λ start. start ++ (pixels ++ drop 864 (drop (15 + 864 * y) (header ++ all)))) front
-    ∙ (ap (λ rest. (header ++ take (864 * y) all) ++ (pixels ++ drop 864 rest)) back
-    ∙ append_assoc header (take (864 * y) all) (pixels ++ drop 864 (drop (864 * y) all))) in
+    let moved : put_mid (15 + 864 * y) 864 (header ++ all) pixels ≡ header ++ put_mid (864 * y) 864 all pixels = search rules in
     let written : put_mid (864 * y) 864 all pixels ≡ flat_map f (set lines y numbers) =
-    ap (λ (bytes : List ℕ). put_mid (864 * y) 864 all bytes) piece
-    ∙ (put
-    ∙ ap (flat_map f)
-    (ap (λ rest. take y lines ++ numbers ∷ rest) (drop-drop 1 y lines ∙ ap (λ n. drop n lines) next)
-    ∙ sym (set_split lines y numbers inside))) in
-    ap (λ n. put_mid (15 + 864 * y) n image pixels) is
-    ∙ (ap (λ (bytes : List ℕ). put_mid (15 + 864 * y) 864 bytes pixels) drawn ∙ (moved ∙ ap (λ rest. header ++ rest) written))
+    cc (piece, put, drop-drop 1 y lines, next, set_split lines y numbers inside) in search rules
 
 -- a line appended to an image
 pub line-more : (palette lines : List (List ℕ)) (image numbers : List ℕ) (y : ℕ) → y < length lines → numbers ≡ get_or lines y [] →
@@ -349,10 +272,7 @@ pub line-more : (palette lines : List (List ℕ)) (image numbers : List ℕ) (y 
     image ++ flat_map (palette_colour palette) numbers ≡ header ++ flat_map (flat_map (palette_colour palette)) (take (y + 1) lines)
 line-more palette lines image numbers y inside read drawn =
     let f : List ℕ → List ℕ = flat_map (palette_colour palette) in
-    ap (λ start. start ++ f numbers) drawn
-    ∙ (ap (λ last. (header ++ flat_map f (take y lines)) ++ f last) read
-    ∙ (flat_map_more f header (take y lines) (get_or lines y [])
-    ∙ ap (λ all. header ++ flat_map f all) (sym (take_more lines y [] inside))))
+    cc (drawn, read, flat_map_more f header (take y lines) (get_or lines y []), take_more lines y [] inside)
 
 -- a block's pixels appended to those of the blocks before it
 pub part-more : (f : ℕ → List ℕ) (numbers image new start pixels : List ℕ) (count stop : ℕ) → new ≡ image ++ pixels →
@@ -373,19 +293,9 @@ part-more f numbers image new start pixels count stop appended is coloured drawn
 pub lines-step : (kept new lines : List (List ℕ)) (numbers : List ℕ) (y : ℕ) → length kept ≡ 224 → y < 224 → new ≡ set kept y numbers →
     numbers ≡ get_or lines y [] → ((k : ℕ) → k < y → get_or kept k [] ≡ get_or lines k []) →
     (k : ℕ) → k < y + 1 → get_or new k [] ≡ get_or lines k []
-lines-step kept new lines numbers y high below is read so_far =
-    let inside : y < length kept = omega (arith, high, below) in
-    below_more _ _
-    (λ k before.
-    let apart : k ≢ y = omega arith in
-    ap (λ all. get_or all k []) is ∙ (get_or-set_other kept y k numbers [] apart ∙ so_far k before))
-    (ap (λ all. get_or all y []) is ∙ (get_or-set_same kept y numbers [] inside ∙ read))
+lines-step kept new lines numbers y high below is read so_far = search rules
 
 -- all lines are kept
 pub all-lines : (kept lines : List (List ℕ)) (y : ℕ) → y ≡ 224 → length kept ≡ 224 → length lines ≡ 224 →
     ((k : ℕ) → k < y → get_or kept k [] ≡ get_or lines k []) → kept ≡ lines
-all-lines kept lines y all one other same =
-    same_lists kept lines (one ∙ sym other) (λ k d inside.
-    let below : k < y = omega (arith, inside, one, all) in
-    let within : k < length lines = omega (arith, inside, one, other) in
-    get_or_default kept k d [] inside ∙ (same k below ∙ get_or_default lines k [] d within))
+all-lines kept lines y all one other same = same_lists kept lines (one ∙ sym other) (λ k d inside. grind (arith, get_or_default))

@@ -1,9 +1,8 @@
 -- What a wave file was given in parts, and silence sample by sample.
-use Rattle.std.proofs.Common.{◌≡◌, ℕ, pos, ◌+◌, ◌-◌, ◌/◌, ◌<◌, ◌≤◌, Bool, false, if◌then◌else◌}
-use Rattle.std.proofs.Common.{List, [], ◌++◌, replicate, length, Result, Ok, Err, sym, ap, subst, ◌∙◌}
-use Rattle.std.proofs.Common.{append_assoc, append-nil, length-append, arith, true, true≢false}
+use Rattle.std.proofs.Common.{◌≡◌, ℕ, pos, ◌+◌, ◌-◌, ◌/◌, ◌<◌, ◌≤◌, Bool, if◌then◌else◌, rules, List, [], ◌++◌, replicate, length, Result}
+use Rattle.std.proofs.Common.{Ok, Err, sym, ap, subst, ◌∙◌, append_assoc, append-nil, arith, true}
 use Rattle.std.proofs.lemmas.List.{flat_map_more, replicate_more, replicate-append-replicate}
-use Rattle.std.proofs.lemmas.Grind.{flat_map-append}
+use Rattle.std.proofs.lemmas.Grind.{flat_map-append, common_steps}
 use Rattle.pac_out.specs.declared.WriteFault.{WriteFault}
 use Rattle.pac_out.specs.declared.counted.Counted.{Counted}
 use Rattle.pac_out.specs.CountedLaws.{HasTaken, HasStopped, Refuses}
@@ -15,8 +14,7 @@ use Rattle.pac_media.specs.Sound.{Sound, Gains, Delivers, SoundFails, FinishesSo
 
 -- where there is room for a sample, its two bytes fit
 pub room-left : (failed : Bool) (waiting : ℕ) → 0 < (if failed then 0 else (8192 - waiting) / 2) → waiting + 2 ≤ 8192
-room-left true waiting some = absurd (omega (arith, some))
-room-left false waiting some = omega (arith, some)
+room-left failed waiting some = search rules
 
 -- a text in other words: as much of it is taken
 abbrev pub in-other-words : {W : Type 0} {took : W → List ℕ → W → Type 0} {refused : W → W → Type 0} {start : W} {one other : List ℕ}
@@ -46,9 +44,7 @@ module _ {W : Type 0} {took : W → List ℕ → W → Type 0} where
         at_least = let e = first.at_least in let f = second.at_least in omega (arith, e, f);
         after = λ start text has. let later = second.after start (text ++ one) (first.after start text has) in
             record { prefix = later.prefix; parts = sym (append_assoc text one other) ∙ later.parts; taken = later.taken };
-        further = λ start text has. let e = first.further start text has in
-            let f = second.further start (text ++ one) (first.after start text has) in
-            omega (arith, e, f);
+        further = search rules;
       }
 
   -- bytes that wait
@@ -60,12 +56,7 @@ module _ {W : Type 0} {took : W → List ℕ → W → Type 0} where
       (subst (λ (sound : Sound W). Gains took sound given (record { file = file; waiting = later; owed = left })) is
       (record {
         at_least = omega arith;
-        after = λ start text has. record {
-          prefix = has.prefix;
-          parts = ap (λ all. all ++ given) has.parts
-              ∙ (append_assoc has.prefix waiting given ∙ ap (λ rest. has.prefix ++ rest) (sym kept));
-          taken = has.taken;
-        };
+        after = grind (arith, common_steps);
         further = λ start text has. omega arith;
       }))
 
@@ -85,17 +76,7 @@ module _ {W : Type 0} {took : W → List ℕ → W → Type 0} where
 
   -- what was given is written, and nothing waits
   pub delivered-gains : {old new : Sound W} {bytes : List ℕ} → Delivers took old bytes new → Gains took old bytes new
-  delivered-gains {old = old} {bytes = bytes} done =
-      record {
-        at_least = done.at_least;
-        after = λ start text has. record {
-          prefix = text ++ bytes;
-          parts = sym (ap (λ waiting. (text ++ bytes) ++ waiting) done.none_waits ∙ append-nil (text ++ bytes));
-          taken = done.after start text has;
-        };
-        further = λ start text has. let all = ap length has.parts in let long = length-append text bytes in
-            let held = length-append has.prefix old.waiting in omega (arith, all, long, held);
-      }
+  delivered-gains {old = old} {bytes = bytes} done = grind (arith, common_steps)
 
   module _ {refused : W → W → Type 0} {fault : WriteFault} where
     -- a refusal within what waits
@@ -122,14 +103,7 @@ module _ {W : Type 0} {took : W → List ℕ → W → Type 0} where
     pub fails-shut : {file : Counted W} {waiting bytes : List ℕ} {owed : ℕ} {before : Sound W}
         → record { file = file; waiting = waiting; owed = owed } ≡ before → file.failed ≡ true → fault.count ≡ file.count
         → SoundFails took refused before bytes fault before
-    fails-shut {bytes = bytes} is shut told =
-        subst (λ (sound : Sound W). SoundFails took refused sound bytes fault sound) is
-        (record {
-          told = told;
-          at_least = omega (arith, told);
-          after = λ start text has. absurd (true≢false (sym shut ∙ has.taken.open_yet));
-          past = λ start text has. absurd (true≢false (sym shut ∙ has.taken.open_yet));
-        })
+    fails-shut {bytes = bytes} is shut told = search rules
 
   -- a refusal after some bytes, and within more
   pub fails-within : {refused : W → W → Type 0} {old mid new : Sound W} {one other : List ℕ} {fault : WriteFault} → Gains took old one mid
@@ -144,12 +118,7 @@ module _ {W : Type 0} {took : W → List ℕ → W → Type 0} where
             (append_assoc (text ++ one) other more
             ∙ (append_assoc text one (other ++ more)
             ∙ ap (λ all. text ++ all) (sym (append_assoc one other more))))
-            (record {
-              taken = stop.taken;
-              stopped = stops-within stop.stopped more;
-              count_is = stop.count_is;
-              closed = stop.closed;
-            });
+            (grind (arith, stops-within));
         past = λ start text has. let e = first.further start text has in
             let f = second.past start (text ++ one) (first.after start text has) in
             omega (arith, e, f);

@@ -1,7 +1,6 @@
 -- What colour numbers pick of a vector, vectors that are woven, and the pixels that come of both.
-use Rattle.std.proofs.Common.{◌≡◌, ◌≢◌, ◌<◌, ◌≤◌, ◌+◌, ◌*◌, ◌/◌, ◌++◌, ℕ, suc, List, [], ◌∷◌}
-use Rattle.std.proofs.Common.{length, get_or, set, map, take, slice_index, refl, sym, ap, ◌∙◌}
-use Rattle.std.proofs.Common.{append_assoc, below_more, get_or-set_other, get_or-set_same, w8, arith}
+use Rattle.std.proofs.Common.{◌≡◌, ◌<◌, ◌≤◌, ◌+◌, ◌++◌, ℕ, suc, List, [], ◌∷◌, length, get_or, map, take, slice_index, refl, sym, ◌∙◌}
+use Rattle.std.proofs.Common.{append_assoc, w8, arith}
 use Rattle.std.specs.List.{flat_map, range_with_len}
 use Rattle.std.proofs.lemmas.List.{get_or-map, length-map, ext_get_or, take_all}
 use Rattle.std.proofs.lemmas.Simd.{Each1-from_get_or, SwzOk, SwzOk-from_below, swz_l, length-swz_l, get_or-swz_l_below, pick_l_whole}
@@ -20,12 +19,7 @@ pub picked-is : (plane numbers : List ℕ) → length numbers ≡ 16 → ((k : �
     → swz_l w8 16 plane 0 numbers ≡ map (λ number. slice_index plane number) numbers
 picked-is plane numbers long below =
     ext_get_or 0 _ _ (length-swz_l w8 16 plane 0 numbers ∙ sym (length-map numbers (λ number. slice_index plane number))) (λ k inside.
-    let within : k < length numbers = omega (arith, length-swz_l w8 16 plane 0 numbers, inside) in
-    let small : k < 16 = omega (arith, within, long) in
-    let row : 16 * ((0 + k) / 16) ≡ 0 = omega (arith, small) in
-    get_or-swz_l_below w8 16 plane 0 numbers k within (below k small)
-    ∙ (ap (λ place. get_or plane place 0) (omega (arith, row))
-    ∙ sym (get_or-map (λ number. slice_index plane number) numbers k 0 0 within)))
+    grind (arith, get_or-map, get_or-swz_l_below, length-swz_l))
 
 -- ---- what is woven: red and green lane by lane, in halves, and blue between them
 
@@ -68,41 +62,12 @@ pub woven-pixels : (colours : List (List ℕ)) (reds greens blues numbers : List
     ≡ flat_map (palette_colour colours) numbers
 woven-pixels colours reds greens blues [] made below = refl
 woven-pixels colours reds greens blues (number ∷ numbers) made below =
-    let colour = made number (below 0 (omega arith)) in
     let more = woven-pixels colours reds greens blues numbers made (λ k inside. below (suc k) (omega (arith, inside))) in
-    rw (colour, more) refl
+    rw ((made number (below 0 (omega arith))), more) refl
 
 -- three parts that follow one another and are all
 pub three-parts : (old one two three a b c : List ℕ) → take (0 + 16) one ≡ take 0 old ++ a
     → take (16 + 16) two ≡ take 16 one ++ b → take (32 + 16) three ≡ take 32 two ++ c → length three ≡ 48
     → three ≡ a ++ (b ++ c)
 three-parts old one two three a b c first second third long =
-    let whole : length three ≤ 48 = omega (arith, long) in
-    sym (take_all 48 three whole)
-    ∙ (third
-    ∙ (ap (λ part. part ++ c) (second ∙ ap (λ part. part ++ b) first)
-    ∙ append_assoc a b c))
-
--- one colour more in its planes
-pub colour-step : (colours : List (List ℕ)) (reds greens blues : List ℕ) (number red green blue : ℕ)
-    → length reds ≡ 16 → length greens ≡ 16 → length blues ≡ 16 → number < 16 → get_or colours number [] ≡ red ∷ green ∷ blue ∷ []
-    → ((k : ℕ) → k < number → get_or colours k [] ≡ get_or reds k 0 ∷ get_or greens k 0 ∷ get_or blues k 0 ∷ [])
-    → (k : ℕ) → k < number + 1
-    → get_or colours k [] ≡ get_or (set reds number red) k 0 ∷ get_or (set greens number green) k 0 ∷ get_or (set blues number blue) k 0 ∷ []
-colour-step colours reds greens blues number red green blue red_long green_long blue_long below is so_far =
-    below_more _ _
-    (λ k before.
-    let apart : k ≢ number = omega arith in
-    rw (
-      get_or-set_other reds number k red 0 apart,
-      get_or-set_other greens number k green 0 apart,
-      get_or-set_other blues number k blue 0 apart,
-    ) (so_far k before))
-    (let in_reds : number < length reds = omega arith in
-    let in_greens : number < length greens = omega arith in
-    let in_blues : number < length blues = omega arith in
-    rw (
-      get_or-set_same reds number red 0 in_reds,
-      get_or-set_same greens number green 0 in_greens,
-      get_or-set_same blues number blue 0 in_blues,
-    ) is)
+    let whole : length three ≤ 48 = omega (arith, long) in cc (take_all 48 three whole, third, second, first, append_assoc a b c)

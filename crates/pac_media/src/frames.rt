@@ -40,9 +40,11 @@ impl<W: Out> Frames<W> {
     /// Writes the image of a picture after those before it, handed to the writer whole; it takes no memory. The fault
     /// has the count of all bytes that the file took. After it each call answers the same fault and writes nothing.
     pub fn put(&mut self, picture: &Picture) -> Result<(), WriteFault>
-        ensures put { Puts W.took W.refused self.old (ppm_of picture.now.lines picture.now.palette) result self.new }
+        ensures put { Puts W.took W.refused self.old (ppm_of picture.now.lines picture.now.palette)
+            result self.new }
         ensures stops { self.old.failed ≡ false
-            → OnErr result (Stops W.took W.refused self.old (ppm_of picture.now.lines picture.now.palette) self.new) }
+            → OnErr result (Stops W.took W.refused self.old
+            (ppm_of picture.now.lines picture.now.palette) self.new) }
     {
         self.image.draw(picture);
         self.file.put(self.image.bytes())

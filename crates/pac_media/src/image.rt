@@ -1,6 +1,7 @@
 //! The image of a picture, in the binary PPM format.
 
-ghost use Rattle.std.specs.Prelude.{◌≡◌, ◌<◌, ◌≤◌, ◌↔◌, ◌++◌, ◌+◌, ◌*◌, [], IsTrue, length, take, drop, slice_index};
+ghost use Rattle.std.specs.Prelude.{◌≡◌, ◌<◌, ◌≤◌, ◌↔◌, ◌++◌, ◌+◌, ◌*◌, [], IsTrue, length, take};
+ghost use Rattle.std.specs.Prelude.{drop, slice_index};
 ghost use Rattle.std.specs.Prelude.{vec_len, vec_capacity, EachIndex, IfOk};
 ghost use Rattle.std.specs.Int.{w64, to_le_bytes};
 ghost use Rattle.std.specs.List.{flat_map};
@@ -38,7 +39,8 @@ type Numbers = [u8; WIDTH];
 fn append_line(image: &mut Vec<u8>, palette: &Palette, numbers: &Numbers)
     requires room { vec_len image.old + 3 * tile.width ≤ vec_capacity image.old }
     requires below { EachIndex numbers.now (λ x. slice_index numbers.now x < colour_numbers) }
-    ensures items { image.new.items ≡ image.old.items ++ flat_map (palette_colour palette.now) numbers.now }
+    ensures items { image.new.items ≡ image.old.items ++ flat_map (palette_colour palette.now)
+        numbers.now }
     ensures len { vec_len image.new ≡ vec_len image.old + 3 * tile.width }
     ensures room { vec_capacity image.old ≤ vec_capacity image.new }
 {

@@ -1,6 +1,7 @@
 //! A palette, and the pixels of colour numbers in it.
 
-ghost use Rattle.std.specs.Prelude.{◌≡◌, ◌<◌, ◌≤◌, ◌+◌, ◌↔◌, ◌++◌, ℕ, IsTrue, IfOk, length, map, replicate, slice_index, take, EachIndex};
+ghost use Rattle.std.specs.Prelude.{◌≡◌, ◌<◌, ◌≤◌, ◌+◌, ◌↔◌, ◌++◌, ℕ, IsTrue, IfOk, length, map};
+ghost use Rattle.std.specs.Prelude.{replicate, slice_index, take, EachIndex};
 ghost use Rattle.std.specs.Int.{w64, to_le_bytes};
 ghost use Rattle.std.specs.List.{flat_map};
 ghost use Rattle.pac_colour.specs.Colours.{numbers as colour_numbers};

@@ -1,6 +1,7 @@
 //! The sound of a run.
 
-ghost use Rattle.std.specs.Prelude.{◌≡◌, ◌<◌, ◌≤◌, ◌+◌, ◌-◌, ◌^◌, [], ◌++◌, length, true, pos, replicate, IsErr, OnOk, MatchBool};
+ghost use Rattle.std.specs.Prelude.{◌≡◌, ◌<◌, ◌≤◌, ◌+◌, ◌-◌, ◌^◌, [], ◌++◌, length, true, pos};
+ghost use Rattle.std.specs.Prelude.{replicate, IsErr, OnOk, MatchBool};
 ghost use Rattle.pac_out.specs.Pieces.{joined_pieces};
 ghost use Rattle.pac_media.specs.Samples.{riff_size, wav_header, sample_text, samples_text};
 ghost use Rattle.pac_media.specs.Sound.{HasText, Gains, GivesSound, FinishesSound, sample_room};
@@ -48,7 +49,8 @@ fn bytes_of(sample: i16) -> [u8; 2]
 /// Gathers bytes after those that wait where there is room for them, and tells whether there is.
 #[inline]
 fn keep(waiting: &mut ArrayVec<u8, 8192>, bytes: &[u8]) -> bool
-    ensures kept { MatchBool result (waiting.new.items ≡ waiting.old.items ++ bytes.now) (waiting.new ≡ waiting.old) }
+    ensures kept { MatchBool result (waiting.new.items ≡ waiting.old.items ++ bytes.now)
+        (waiting.new ≡ waiting.old) }
     ensures room { length waiting.old.items + length bytes.now ≤ 8192 → result ≡ true }
 {
     waiting.try_extend_from_slice(bytes).is_ok()
@@ -163,7 +165,8 @@ impl<W: Out> WaveFile<W> {
 
     /// Gathers zeros for the samples that are still to come, and writes what waits.
     pub fn finish(&mut self) -> Result<(), WriteFault>
-        ensures written { FinishesSound W.took W.refused self.old (samples_text (replicate self.old.owed (pos 0))) result self.new }
+        ensures written { FinishesSound W.took W.refused self.old
+            (samples_text (replicate self.old.owed (pos 0))) result self.new }
         ensures owed { OnOk result (self.new.owed ≡ 0) }
         ensures later_err { self.old.file.failed ≡ true → IsErr result }
         ensures later_unchanged { self.old.file.failed ≡ true → self.new ≡ self.old }

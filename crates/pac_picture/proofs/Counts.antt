@@ -1,7 +1,6 @@
 -- Places that are counted one after another, and cells that are drawn so.
-use Rattle.std.proofs.Common.{◌≡◌, ◌≢◌, ℕ, zero, suc, ◌+◌, ◌<◌, ◌≤◌, Bool, true, false, if◌then◌else◌}
-use Rattle.std.proofs.Common.{List, [], length, get_or, set, refl, sym, ap, ◌∙◌, add-one, below_more, arith}
-use Rattle.std.proofs.Common.{get_or-set_other, get_or-set_same, length-set}
+use Rattle.std.proofs.Common.{◌≡◌, ℕ, zero, suc, ◌+◌, ◌<◌, ◌≤◌, Bool, true, false, if◌then◌else◌}
+use Rattle.std.proofs.Common.{List, get_or, refl, sym, add-one, arith}
 use Rattle.std.specs.Prelude.{count_by}
 use Rattle.std.proofs.lemmas.List.Sums.{sum_by_push}
 use Rattle.std.proofs.lemmas.Bool.{eq-eqb}
@@ -35,40 +34,9 @@ count-same one other (suc count) same =
     let last = same count (omega arith) in
     rw (count-more one count, count-more other count, before, last) refl
 
--- a cell that is drawn, or left, stands alone
-pub draw-at : (test : Bool) (cells next : List (List (List ℕ))) (column : ℕ) (pattern : List (List ℕ)) →
-    next ≡ (if test then set cells column pattern else cells) → column < length cells →
-    get_or next column [] ≡ (if test then pattern else get_or cells column [])
-draw-at true cells next column pattern is inside = rw is (get_or-set_same cells column pattern [] inside)
-draw-at false cells next column pattern is inside = rw is refl
-
-pub draw-other : (test : Bool) (cells next : List (List (List ℕ))) (column k : ℕ) (pattern : List (List ℕ)) →
-    next ≡ (if test then set cells column pattern else cells) → k ≢ column → get_or next k [] ≡ get_or cells k []
-draw-other true cells next column k pattern is apart = rw is (get_or-set_other cells column k pattern [] apart)
-draw-other false cells next column k pattern is apart = rw is refl
-
-pub draw-long : (test : Bool) (cells next : List (List (List ℕ))) (column : ℕ) (pattern : List (List ℕ)) →
-    next ≡ (if test then set cells column pattern else cells) → length next ≡ length cells
-draw-long true cells next column pattern is = rw is (length-set cells column pattern)
-draw-long false cells next column pattern is = rw is refl
-
 pub one-at-most : (test : Bool) (one : ℕ) → one ≡ (if test then 1 else 0) → one ≤ 1
 one-at-most true one is = omega (arith, is)
 one-at-most false one is = omega (arith, is)
-
--- one cell more
-pub draw-step : (tests : List Bool) (old cells next : List (List (List ℕ))) (column : ℕ) (pattern : ℕ → List (List ℕ)) →
-    next ≡ (if get_or tests column false then set cells column (pattern column) else cells) → column < length cells →
-    ((k : ℕ) → k < column → get_or cells k [] ≡ (if get_or tests k false then pattern k else get_or old k [])) →
-    ((k : ℕ) → column ≤ k → get_or cells k [] ≡ get_or old k []) →
-    (k : ℕ) → k < column + 1 → get_or next k [] ≡ (if get_or tests k false then pattern k else get_or old k [])
-draw-step tests old cells next column pattern is inside drawn rest =
-    below_more _ _
-    (λ k before.
-    let apart : k ≢ column = omega (arith, before) in
-    draw-other (get_or tests column false) cells next column k (pattern column) is apart ∙ drawn k before)
-    (draw-at (get_or tests column false) cells next column (pattern column) is inside
-    ∙ ap (λ (left : List (List ℕ)). if get_or tests column false then pattern column else left) (rest column (omega arith)))
 
 count-never : (test : ℕ → Bool) (count : ℕ) → ((k : ℕ) → k < count → test k ≡ false) → count_by test (tabulate count (λ k. k)) ≡ 0
 unfolding tabulate

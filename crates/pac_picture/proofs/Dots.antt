@@ -1,54 +1,16 @@
 -- A line of the picture, dot by dot.
-use Rattle.std.proofs.Common.{◌≡◌, ◌≢◌, ℕ, ◌+◌, ◌*◌, ◌/◌, ◌%◌, ◌<◌, ◌≤◌, ◌++◌, Bool, true, false, nat_lt, []}
-use Rattle.std.proofs.Common.{if◌then◌else◌, List, length, get_or, set, slice_index, slice_index_or, take, refl, sym, ap, ◌∙◌, arith}
+use Rattle.std.proofs.Common.{◌≡◌, ◌≢◌, ℕ, ◌+◌, ◌<◌, ◌≤◌, Bool, true, false, nat_lt}
+use Rattle.std.proofs.Common.{if◌then◌else◌, List, length, get_or, set, slice_index, refl, sym, ◌∙◌, arith}
 use Rattle.std.proofs.Common.{get_or-set_other, get_or-set_same, Some, None}
-use Rattle.std.proofs.lemmas.Slice.{take-put_mid}
 use Rattle.std.proofs.lemmas.Bool.{cases_Bool, ltb-true, ltb-false, lt-ltb, le-ltb, and_parts, cases_eq}
 use Rattle.std.proofs.lemmas.Bool.Decides.{nat_tests}
-use Rattle.std.proofs.lemmas.List.{take_all}
 use mathlib.Core.Logic.{inl, inr}
-use borrow.Rule.Slice.PartMut.{put_mid}
 use Rattle.pac_num.specs.Tabulate.{tabulate}
-use Rattle.pac_num.proofs.Tabulated.{get_or-tabulate, tabulate-add, tabulate-is}
+use Rattle.pac_num.proofs.Tabulated.{get_or-tabulate}
 use Rattle.pac_sprites.specs.declared.Sprite.{Sprite}
 use Rattle.pac_sprites.specs.Sprites.{is_column_of, is_in_box, box_place, flipped_place}
 use Rattle.pac_picture.specs.Picture.{VideoRoms, sprite_dot, sprite_number}
-use Rattle.pac_picture.specs.Painting.{painted_number, over_line, cell_dot}
-
--- the eight dots of a cell
-cell-dots : (cells : List (List (List ℕ))) (piece : List ℕ) (column y : ℕ) →
-    piece ≡ slice_index_or (slice_index_or cells column []) y [] → length piece ≡ 8 →
-    piece ≡ tabulate 8 (λ x. cell_dot cells (8 * column + x) y)
-unfolding cell_dot
-cell-dots cells piece column y is long =
-    tabulate-is piece 8 (λ x. cell_dot cells (8 * column + x) y) 0 long (λ x below.
-    let quotient : (8 * column + x) / 8 ≡ column = omega (arith, below) in
-    let remainder : (8 * column + x) % 8 ≡ x = omega (arith, below) in
-    rw (quotient, remainder, ← is) refl)
-
--- one cell more
-pub cells-step : (cells : List (List (List ℕ))) (out piece : List ℕ) (column y part : ℕ) →
-    piece ≡ slice_index_or (slice_index_or cells column []) y [] → length piece ≡ 8 → length out ≡ 288 → column < 36 →
-    take (8 * column) out ≡ tabulate (8 * column) (λ x. cell_dot cells x y) →
-    take (8 * (column + 1)) (put_mid (8 * column) part out piece) ≡ tabulate (8 * (column + 1)) (λ x. cell_dot cells x y)
-cells-step cells out piece column y part is eight long inside so_far =
-    let end : 8 * (column + 1) ≡ 8 * column + length piece = omega (arith, eight) in
-    let fits : 8 * column ≤ length out = omega (arith, long, inside) in
-    let dot : ℕ → ℕ = λ x. cell_dot cells x y in
-    let eight_more : piece ≡ tabulate 8 (λ x. dot (8 * column + x)) = cell-dots cells piece column y is eight in
-    let step : 8 * (column + 1) ≡ 8 * column + 8 = omega arith in
-    let joined : tabulate (8 * column) dot ++ piece ≡ tabulate (8 * (column + 1)) dot =
-    rw (step, eight_more) (sym (tabulate-add (8 * column) 8 dot)) in
-    take-put_mid (8 * column) part out piece _ end fits ∙ (ap (λ before. before ++ piece) so_far ∙ joined)
-
--- all cells
-pub cells-end : (dot : ℕ → ℕ) (out : List ℕ) (column : ℕ) → column ≡ 36 → length out ≡ 288 →
-    take (8 * column) out ≡ tabulate (8 * column) dot → out ≡ tabulate 288 dot
-cells-end dot out column last long so_far =
-    let all : 8 * column ≡ 288 = omega (arith, last) in
-    let within : length out ≤ 288 = omega (arith, long) in
-    let drawn : take 288 out ≡ tabulate 288 dot = rw all at so_far in
-    sym (take_all 288 out within) ∙ drawn
+use Rattle.pac_picture.specs.Painting.{painted_number, over_line}
 
 -- what a line of a sprite does in a column at which it shows, and in another
 line-on : (line : List ℕ) (sprite : Sprite) (x below : ℕ) → is_column_of sprite x ≡ true →

@@ -11,11 +11,9 @@ use Rattle.pac_tiles.specs.Tiles.{offset_of}
 use Rattle.pac_num.proofs.Tabulated.{length-tabulate, get_or-tabulate, tabulate-same, tabulate-is}
 use Rattle.pac_picture.specs.declared.layer.Strip.{Strip}
 use Rattle.pac_picture.specs.declared.shadow.Shadow.{Shadow}
-use Rattle.pac_picture.specs.Picture.{VideoRoms, VideoMemory, tile_number, tile_dot}
+use Rattle.pac_picture.specs.Picture.{VideoRoms, VideoMemory, tile_dot}
 use Rattle.pac_picture.specs.Layer.{shadow_from, shadow_at, drawn_from, cells_of, differing_in}
-use Rattle.pac_picture.specs.LayerProofs.{tile_pattern}
-use Rattle.pac_picture.specs.LayerProofs.{kept_dot, made_stale, stale_rows, stale_row, IsDrawn, IsLayer, LayerState}
-use Rattle.pac_picture.specs.Painting.{cell_dot}
+use Rattle.pac_picture.specs.LayerProofs.{kept_dot, row_dot, made_stale, stale_rows, stale_row, IsDrawn, IsLayer, LayerState}
 
 -- one row more that is stale
 pub made-step : (old now : List Shadow) (index : ℕ) → index < length now →
@@ -51,7 +49,7 @@ pub length-stale : length stale_rows ≡ 28
 unfolding stale_rows
 length-stale = length-tabulate 28 (λ _. stale_row)
 
-pub new-layer : (roms : VideoRoms) (shadows : List Shadow) (strips : List (Strip (List (List (List ℕ))))) → shadows ≡ stale_rows →
+pub new-layer : (roms : VideoRoms) (shadows : List Shadow) (strips : List (Strip (List (List ℕ)))) → shadows ≡ stale_rows →
     length strips ≡ 28 →
     IsLayer roms shadows strips
 new-layer roms shadows strips is high = record {
@@ -64,25 +62,14 @@ new-layer roms shadows strips is high = record {
 }
 
 -- a line of the layer
-dot-kept : (roms : VideoRoms) (shadow : Shadow) (strip : List (List (List ℕ))) (x y : ℕ) → IsDrawn roms shadow strip →
-    shadow.stale ≡ false → x < 288 → cell_dot strip x (y % 8) ≡ kept_dot roms shadow x y
-unfolding cell_dot kept_dot tile_pattern
-dot-kept roms shadow strip x y drawn fresh across =
-    let column : x / 8 < 36 = omega (arith, across) in
-    let down : y % 8 < 8 = omega arith in
-    let right : x % 8 < 8 = omega arith in
-    let colour : ℕ = slice_index shadow.colours (x / 8) in
-    let tile : ℕ = slice_index shadow.tiles (x / 8) in
-    rw (
-      drawn fresh (x / 8) column,
-      get_or-tabulate 8 (λ (y : ℕ). tabulate 8 (λ (x : ℕ). tile_number roms colour tile x y)) (y % 8) [] down,
-    )
-    (get_or-tabulate 8 (λ (x : ℕ). tile_number roms colour tile x (y % 8)) (x % 8) 0 right)
-
-pub line-kept : (roms : VideoRoms) (shadow : Shadow) (strip : List (List (List ℕ))) (y : ℕ) → IsDrawn roms shadow strip →
-    shadow.stale ≡ false → tabulate 288 (λ x. cell_dot strip x (y % 8)) ≡ tabulate 288 (λ x. kept_dot roms shadow x y)
+pub line-kept : (roms : VideoRoms) (shadow : Shadow) (strip : List (List ℕ)) (y : ℕ) → IsDrawn roms shadow strip →
+    shadow.stale ≡ false → tabulate 288 (λ x. row_dot strip x (y % 8)) ≡ tabulate 288 (λ x. kept_dot roms shadow x y)
+unfolding kept_dot
 line-kept roms shadow strip y drawn fresh =
-    tabulate-same 288 _ _ (λ x across. dot-kept roms shadow strip x y drawn fresh across)
+    tabulate-same 288 _ _ (λ x across.
+    let down : y % 8 < 8 = omega arith in
+    let same : (y % 8) % 8 ≡ y % 8 = omega arith in
+    rw same at (drawn fresh x (y % 8) across down))
 
 -- of a row that was drawn from memory
 pub dot-drawn : (roms : VideoRoms) (memory : VideoMemory) (x y : ℕ) → x < 288 →

@@ -5,6 +5,8 @@ pub mod Painted
 pub mod Boxes
 pub mod Alike
 pub mod Dots
+pub mod Strips
+pub mod Blended
 pub mod Cells
 pub mod Masks
 pub mod Counts

@@ -26,7 +26,7 @@ count-always test (suc count) always =
     rw (count-more test count, before, last) (sym next)
 
 -- the 36 cells of a row
-row-counts : (shadow : Shadow) (tiles colours : List ℕ) → shadow.stale ≡ true → differing_cells shadow tiles colours ≡ 36
+pub row-counts : (shadow : Shadow) (tiles colours : List ℕ) → shadow.stale ≡ true → differing_cells shadow tiles colours ≡ 36
 unfolding differing_cells
 row-counts shadow tiles colours is = count-always (cell_differs shadow tiles colours) 36 (λ k. rw is refl)
 
@@ -73,7 +73,7 @@ made-are-stale old new is high = record {
 }
 
 -- a layer of which every cell counts as differing, whatever its ROMs are
-pub undrawn-layer : (roms : VideoRoms) (shadows : List Shadow) (strips : List (Strip (List (List (List ℕ))))) → AreStale shadows →
+pub undrawn-layer : (roms : VideoRoms) (shadows : List Shadow) (strips : List (Strip (List (List ℕ)))) → AreStale shadows →
     length strips ≡ 28 →
     IsLayer roms shadows strips
 undrawn-layer roms shadows strips are high = record {

@@ -2,6 +2,7 @@
 use Rattle.pac_picture.specs.Picture.{VideoRoms, tile_number}
 use Rattle.std.specs.Prelude.{ℕ, List, length, ◌≡◌, replicate, false, slice_index_or, [], slice_index, ◌<◌, true, ◌/◌, ◌%◌}
 use Rattle.pac_num.specs.Tabulate.{tabulate}
+use Rattle.pac_tiles.specs.Tiles.{width}
 use Rattle.pac_tiles.specs.TilesProofs.{tile_rom_size}
 use Rattle.pac_sprites.specs.SpritesProofs.{sprite_rom_size}
 use Rattle.pac_colour.specs.ColoursProofs.{lookup_size}
@@ -9,10 +10,6 @@ use Rattle.pac_picture.specs.declared.shadow.Shadow.{Shadow}
 use Rattle.pac_tiles.specs.TilesLaws.{columns, rows}
 use Rattle.pac_picture.specs.declared.layer.Strip.{Strip}
 use Rattle.pac_picture.specs.Layer.{shadow_at}
-
--- the eight lines of a tile's colour numbers in a colour
-unfoldable pub tile_pattern : VideoRoms → ℕ → ℕ → List (List ℕ)
-tile_pattern roms colour tile = tabulate 8 (λ y. tabulate 8 (λ x. tile_number roms colour tile x y))
 
 -- the ROMs have their sizes
 pub record AreSized (roms : VideoRoms) : Type 0 where
@@ -28,12 +25,6 @@ zero_roms = record {
   lookup = replicate lookup_size 0;
 }
 
--- where a row of cells isn't stale, each of them is the tile that its bytes say, in the colour that they say
-abbrev pub IsDrawn : VideoRoms → Shadow → List (List (List ℕ)) → Type 0
-IsDrawn roms shadow cells =
-    shadow.stale ≡ false → (column : ℕ) → column < columns →
-    slice_index_or cells column [] ≡ tile_pattern roms (slice_index shadow.colours column) (slice_index shadow.tiles column)
-
 -- the shadow of a row that was never drawn, and of all rows
 abbrev pub stale_row : Shadow
 stale_row = record { tiles = replicate columns 0; colours = replicate columns 0; stale = true }
@@ -45,21 +36,30 @@ stale_rows = tabulate rows (λ _. stale_row)
 abbrev pub made_stale : Shadow → Shadow
 made_stale shadow = record shadow { stale = true }
 
+-- the number at (x, y) of the picture, from the bytes that its row of cells was drawn from
+unfoldable pub kept_dot : VideoRoms → Shadow → ℕ → ℕ → ℕ
+kept_dot roms shadow x y = tile_number roms (slice_index shadow.colours (x / 8)) (slice_index shadow.tiles (x / 8)) (x % 8) (y % 8)
+
+-- the number in column x on line y of lines
+abbrev pub row_dot : List (List ℕ) → ℕ → ℕ → ℕ
+row_dot lines x y = slice_index (slice_index_or lines y []) x
+
+-- where a row of cells isn't stale, its lines are those of the cells that its bytes say
+abbrev pub IsDrawn : VideoRoms → Shadow → List (List ℕ) → Type 0
+IsDrawn roms shadow lines =
+    shadow.stale ≡ false → (x y : ℕ) → x < width → y < 8 → row_dot lines x y ≡ kept_dot roms shadow x y
+
 -- what clauses see of the layer: the ROMs that it is drawn from, and the shadows of its 28 rows
 pub record LayerState : Type 0 where
   pub roms : VideoRoms
   pub shadows : List Shadow
 
--- the cells of the row of a number
-abbrev pub cells_at : List (Strip (List (List (List ℕ)))) → ℕ → List (List (List ℕ))
-cells_at strips row = (slice_index_or strips row (record { cells = [] })).cells
+-- the lines of the row of a number
+abbrev pub lines_at : List (Strip (List (List ℕ))) → ℕ → List (List ℕ)
+lines_at strips row = (slice_index_or strips row (record { lines = [] })).lines
 
 -- the layer's rows are whole, and drawn
-pub record IsLayer (roms : VideoRoms) (shadows : List Shadow) (strips : List (Strip (List (List (List ℕ))))) : Type 0 where
+pub record IsLayer (roms : VideoRoms) (shadows : List Shadow) (strips : List (Strip (List (List ℕ)))) : Type 0 where
   pub shadows_high : length shadows ≡ rows
   pub strips_high : length strips ≡ rows
-  pub drawn : (row : ℕ) → row < rows → IsDrawn roms (shadow_at shadows row) (cells_at strips row)
-
--- the number at (x, y) of the picture, from the bytes that its row of cells was drawn from
-unfoldable pub kept_dot : VideoRoms → Shadow → ℕ → ℕ → ℕ
-kept_dot roms shadow x y = tile_number roms (slice_index shadow.colours (x / 8)) (slice_index shadow.tiles (x / 8)) (x % 8) (y % 8)
+  pub drawn : (row : ℕ) → row < rows → IsDrawn roms (shadow_at shadows row) (lines_at strips row)

@@ -3,6 +3,7 @@ pub mod PictureProofs
 pub mod PictureLaws
 pub mod Layer
 pub mod LayerProofs
+pub mod Strips
 pub mod Decoded
 pub mod State
 pub mod StateLaws

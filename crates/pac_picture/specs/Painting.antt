@@ -1,5 +1,5 @@
 -- For proofs: a line of the picture as it is painted: colour number 0 of a sprite is transparent.
-use Rattle.std.specs.Prelude.{◌≡◌, ℕ, ◌*◌, ◌/◌, ◌%◌, ◌^◌, ◌<◌, if◌then◌else◌, List, [], slice_index, slice_index_or}
+use Rattle.std.specs.Prelude.{◌≡◌, ℕ, ◌*◌, ◌/◌, ◌%◌, ◌^◌, ◌<◌, if◌then◌else◌, List, slice_index}
 use Rattle.pac_sprites.specs.declared.Sprite.{Sprite}
 use Rattle.pac_sprites.specs.Sprites.{is_column_of, is_in_box, box_place, flipped_place}
 use Rattle.pac_picture.specs.Picture.{VideoMemory, sprite_at, is_opaque}
@@ -14,10 +14,6 @@ over_line line sprite x below =
     if is_column_of sprite x
     then painted_number (slice_index line (flipped_place sprite.flip_x (box_place sprite.left x))) below
     else below
-
--- the number in column x on line y of a row of cells
-unfoldable pub cell_dot : List (List (List ℕ)) → ℕ → ℕ → ℕ
-cell_dot cells x y = slice_index (slice_index_or (slice_index_or cells (x / 8) []) y []) (x % 8)
 
 -- bits say which of the eight sprites' boxes have line y of the picture, two for each sprite, of which the first tells
 abbrev pub AreBoxes : ℕ → VideoMemory → ℕ → Type 0

@@ -1,7 +1,7 @@
 //! The ROMs that pictures are drawn from. The pixels of a tile and of a sprite are taken from their bytes, and a colour's numbers
 //! put in their places, sixteen at a time.
 
-ghost use Rattle.std.specs.Prelude.{◌≡◌, ◌<◌, ℕ, ◌+◌, ◌*◌, ◌/◌, ◌%◌, nat_lt, if◌then◌else◌, length, slice_index, take, drop};
+ghost use Rattle.std.specs.Prelude.{◌≡◌, ◌<◌, ℕ, ◌+◌, ◌*◌, ◌/◌, ◌%◌, nat_lt, if◌then◌else◌, length, slice_index};
 ghost use Rattle.pac_num.specs.Tabulate.{tabulate};
 ghost use Rattle.pac_num.specs.Pixels.{pixel_value};
 ghost use Rattle.pac_tiles.specs.Tiles as tile;
@@ -9,9 +9,11 @@ ghost use Rattle.pac_sprites.specs.Sprites as sprite;
 ghost use Rattle.pac_sprites.specs.SpritesProofs as sprites_proofs;
 ghost use Rattle.pac_colour.specs.Colours as colour_of;
 ghost use Rattle.pac_picture.specs.Picture.{sprite_number};
-ghost use Rattle.pac_picture.specs.LayerProofs.{tile_pattern, zero_roms};
-ghost use Rattle.pac_picture.specs.Decoded.{tile_pair, sprite_values, ArePlaces, AreValues, AreNumbersOf};
+ghost use Rattle.pac_picture.specs.LayerProofs.{zero_roms};
+ghost use Rattle.pac_picture.specs.Strips.{tile_pairs};
+ghost use Rattle.pac_picture.specs.Decoded.{sprite_values, ArePlaces, AreValues, AreNumbersOf};
 
+use crate::size::copied;
 use std::marker::Model;
 use std::simd::prelude::*;
 
@@ -28,58 +30,49 @@ const FIRST_LINES: [u8; 16] = [8, 8, 8, 8, 0, 0, 0, 0, 9, 9, 9, 9, 1, 1, 1, 1];
 
 /// The bytes at sixteen places of sixteen.
 #[inline]
-fn picked(bytes: &[u8; 16], places: &[u8; 16]) -> [u8; 16]
-    requires { ArePlaces places.now }
-    ensures { (k : ℕ) → k < 16 → slice_index result k ≡ slice_index bytes.now (slice_index places.now k) }
+fn picked(bytes: u8x16, places: u8x16) -> u8x16
+    requires { ArePlaces places }
+    ensures { (k : ℕ) → k < 16 → slice_index result k ≡ slice_index bytes (slice_index places k) }
 {
-    u8x16::from_array(*bytes)
-        .swizzle_dyn(u8x16::from_array(*places))
-        .to_array()
+    bytes.swizzle_dyn(places)
 }
 
 /// The pixels of sixteen bytes, of each that of its place's column.
 #[inline]
-fn values(bytes: &[u8; 16]) -> [u8; 16]
-    ensures { (k : ℕ) → k < 16 → slice_index result k ≡ pixel_value (slice_index bytes.now k) k }
+fn values(bytes: u8x16) -> u8x16
+    ensures { (k : ℕ) → k < 16 → slice_index result k ≡ pixel_value (slice_index bytes k) k }
 {
-    let bytes = u8x16::from_array(*bytes);
     let twos = (bytes & u8x16::from_array(TWOS)).simd_min(u8x16::splat(2));
     let ones = (bytes & u8x16::from_array(ONES)).simd_min(u8x16::splat(1));
-    (twos + ones).to_array()
-}
-
-/// The first eight and the last eight of sixteen bytes.
-#[inline]
-fn halves(both: &[u8; 16]) -> ([u8; 8], [u8; 8])
-    ensures first { result.0 ≡ take 8 both.now }
-    ensures last { result.1 ≡ take 8 (drop 8 both.now) }
-{
-    let mut first = [0; 8];
-    let mut last = [0; 8];
-    first.copy_from_slice(&both[..8]);
-    last.copy_from_slice(&both[8..]);
-    (first, last)
+    twos + ones
 }
 
 /// The places of a tile's bytes that have the pixels of a pair of its lines, 0 to 3.
 #[inline]
-fn tile_places(pair: u8) -> [u8; 16]
+fn tile_places(pair: u8) -> u8x16
     requires { pair < 4 }
     ensures { (k : ℕ) → k < 16 → slice_index result k ≡ 2 * pair + k / 8 + (if nat_lt (k % 8) 4 then 8 else 0) }
 {
-    (u8x16::from_array(FIRST_LINES) + u8x16::splat(2 * pair)).to_array()
+    u8x16::from_array(FIRST_LINES) + u8x16::splat(2 * pair)
 }
 
-/// The pixel values on a pair of a tile's lines, one after the other.
+/// The sixteen bytes of a tile.
 #[inline]
-fn tile_values(rom: &[u8; 4096], code: u8, pair: u8) -> [u8; 16]
-    requires { pair < 4 }
-    ensures { result ≡ tile_pair rom.now code pair }
+fn tile_bytes(rom: &[u8; 4096], code: u8) -> u8x16
+    ensures { (k : ℕ) → k < 16 → slice_index result k ≡ slice_index rom.now (16 * code + k) }
 {
     let start = 16 * code as usize;
-    let mut bytes = [0; 16];
-    bytes.copy_from_slice(&rom[start..start + 16]);
-    values(&picked(&bytes, &tile_places(pair)))
+    u8x16::from_slice(&rom[start..])
+}
+
+/// The pixel values on a pair of the lines of a tile that has these bytes, one after the other.
+#[inline]
+fn tile_values(bytes: u8x16, pair: u8) -> u8x16
+    requires { pair < 4 }
+    ensures { (k : ℕ) → k < 16 → slice_index result k
+        ≡ pixel_value (slice_index bytes (2 * pair + k / 8 + (if nat_lt (k % 8) 4 then 8 else 0))) k }
+{
+    values(picked(bytes, tile_places(pair)))
 }
 
 /// The bytes that have the pixels on line y of a sprite, from left to right.
@@ -99,31 +92,25 @@ fn sprite_bytes(rom: &[u8; 4096], code: u8, y: u8) -> [u8; 16]
 
 /// The pixel values on line y of a sprite.
 #[inline]
-fn sprite_values(rom: &[u8; 4096], code: u8, y: u8) -> [u8; 16]
+fn sprite_values(rom: &[u8; 4096], code: u8, y: u8) -> u8x16
     requires code { code < sprites_proofs.sprite_codes }
     requires y { y < 16 }
     ensures { result ≡ sprite_values rom.now code y }
 {
-    values(&sprite_bytes(rom, code, y))
+    values(u8x16::from_array(sprite_bytes(rom, code, y)))
 }
 
 /// A colour's number of each pixel value: the first four of sixteen.
 #[inline]
-fn numbers(lookup: &[u8; 256], colour: u8) -> [u8; 16]
+fn numbers(lookup: &[u8; 256], colour: u8) -> u8x16
     ensures { AreNumbersOf lookup.now colour result }
 {
     let start = 4 * (colour % 32) as usize;
-    (u8x16::from_slice(&lookup[start..]) & u8x16::splat(15)).to_array()
+    u8x16::from_slice(&lookup[start..]) & u8x16::splat(15)
 }
 
-/// N bytes of a ROM, copied.
-#[inline]
-fn copied<const N: usize>(bytes: &[u8; N]) -> [u8; N]
-    ensures bytes { result ≡ bytes.now }
-    ensures size { length bytes.now ≡ N }
-{
-    *bytes
-}
+/// The colour numbers of a tile: its lines two by two, the two of a pair one after the other.
+pub(crate) type TilePattern = [[u8; 16]; 4];
 
 /// The ROMs that pictures are drawn from. Clauses see their bytes.
 #[derive(Drop)]
@@ -182,17 +169,16 @@ impl Graphics {
         self.lookup = copied(lookup);
     }
 
-    /// The colour numbers of a tile in a colour, line by line.
+    /// The colour numbers of a tile in a colour.
     #[inline]
-    pub(crate) fn pattern(&self, colour: u8, code: u8) -> [[u8; 8]; 8]
-        ensures { result ≡ tile_pattern self.now colour code }
+    pub(crate) fn pattern(&self, colour: u8, code: u8) -> TilePattern
+        ensures { result ≡ tile_pairs self.now colour code }
     {
         let numbers = numbers(&self.lookup, colour);
-        let mut lines = [[0; 8]; 8];
+        let bytes = tile_bytes(&self.tiles, code);
+        let mut lines = [[0; 16]; 4];
         for pair in 0..4u8 {
-            let (upper, lower) = halves(&picked(&numbers, &tile_values(&self.tiles, code, pair)));
-            lines[2 * pair as usize] = upper;
-            lines[2 * pair as usize + 1] = lower;
+            lines[pair as usize] = picked(numbers, tile_values(bytes, pair)).to_array();
         }
         lines
     }
@@ -205,8 +191,9 @@ impl Graphics {
         ensures { result ≡ tabulate 16 (λ x. sprite_number self.now colour code x y) }
     {
         picked(
-            &numbers(&self.lookup, colour),
-            &sprite_values(&self.sprites, code, y),
+            numbers(&self.lookup, colour),
+            sprite_values(&self.sprites, code, y),
         )
+        .to_array()
     }
 }

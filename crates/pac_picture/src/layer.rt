@@ -7,16 +7,15 @@ ghost use Rattle.pac_tiles.specs.Tiles as tile;
 ghost use Rattle.pac_tiles.specs.TilesLaws as tiles_laws;
 ghost use Rattle.pac_picture.specs.Layer.{cells_of, cell_differs, differing_cells, differing_in, drawn_from, shadow_at};
 ghost use Rattle.pac_picture.specs.Layer.{shadow_from};
-ghost use Rattle.pac_picture.specs.LayerProofs.{tile_pattern};
 ghost use Rattle.pac_picture.specs.LayerProofs.{IsDrawn, kept_dot, made_stale, stale_rows, zero_roms};
 ghost use Rattle.pac_picture.specs.Layer.{all_differing};
 
 use crate::graphics::Graphics;
 use crate::laws::changed;
-use crate::painting::{Cells, lay_cells};
 use crate::screen::Screen;
 use crate::shadow::Shadow;
 use crate::size::{COLUMNS, ROWS, RowBytes, WIDTH, repeated};
+use crate::strip::{RowLines, draw_all, lay_line, marked, redraw};
 use std::marker::Model;
 
 /// For each cell of a row whether all count, or one of two lists has the place.
@@ -45,103 +44,50 @@ fn differing(shadow: &Shadow, tiles: &RowBytes, colours: &RowBytes) -> [bool; CO
     either(shadow.stale, &by_tile, &by_colour)
 }
 
-/// Whether a cell of a mask has the tile and the colour of the cell to its left, which is of the mask too.
-#[inline]
-fn is_like_left(tiles: &RowBytes, colours: &RowBytes, mask: &[bool; COLUMNS], column: usize) -> bool
-    requires { column < tiles_laws.columns }
-    ensures place { result ≡ true → 1 ≤ column }
-    ensures masked { result ≡ true → slice_index_or mask.now (column - 1) false ≡ true }
-    ensures code { result ≡ true → slice_index tiles.now column ≡ slice_index tiles.now (column - 1) }
-    ensures colour { result ≡ true → slice_index colours.now column ≡ slice_index colours.now (column - 1) }
-{
-    mask[column]
-        && column > 0
-        && mask[column - 1]
-        && tiles[column] == tiles[column - 1]
-        && colours[column] == colours[column - 1]
-}
-
-/// Draws a cell with a tile in a colour where it differs, as a copy of the cell to its left where that is the same, and counts it.
-#[inline]
-fn redraw_cell(
-    cells: &mut Cells,
-    graphics: &Graphics,
-    column: usize,
-    code: u8,
-    colour: u8,
-    differs: bool,
-    is_like_left: bool,
-) -> u32
-    requires place { column < tiles_laws.columns }
-    requires place_left { is_like_left ≡ true → 1 ≤ column }
-    requires left { is_like_left ≡ true → slice_index_or cells.old (column - 1) [] ≡ tile_pattern graphics.now colour code }
-    ensures cells { cells.new ≡ (if differs then slice_set cells.old column (tile_pattern graphics.now colour code) else cells.old) }
-    ensures count { result ≡ (if differs then 1 else 0) }
-{
-    if !differs {
-        return 0;
-    }
-    cells[column] = if is_like_left {
-        cells[column - 1]
-    } else {
-        graphics.pattern(colour, code)
-    };
-    1
-}
-
-/// Draws the cells of a mask, and counts them. Most cells of a picture are like the one to their left, so one pattern serves many.
-#[inline]
-fn redraw(
-    cells: &mut Cells,
-    graphics: &Graphics,
-    tiles: &RowBytes,
-    colours: &RowBytes,
-    mask: &[bool; COLUMNS],
-) -> u32
-    ensures cells { (k : ℕ) → k < tiles_laws.columns → slice_index_or cells.new k []
-        ≡ (if slice_index_or mask.now k false
-        then tile_pattern graphics.now (slice_index colours.now k) (slice_index tiles.now k)
-        else slice_index_or cells.old k []) }
-    ensures count { result ≡ count_by (λ k. slice_index_or mask.now k false) (tabulate tiles_laws.columns (λ k. k)) }
-    ensures bound { result ≤ tiles_laws.columns }
-{
-    let mut count = 0;
-    for column in 0..COLUMNS {
-        let is_like_left = is_like_left(tiles, colours, mask, column);
-        count += redraw_cell(
-            cells,
-            graphics,
-            column,
-            tiles[column],
-            colours[column],
-            mask[column],
-            is_like_left,
-        );
-    }
-    count
-}
-
-/// Draws those cells of a row again that differ from these bytes, looking at each of them; says how many they are.
+/// Draws those cells of a row again that differ from these bytes, looking at each of them, and all of a row of which none is known to be
+/// drawn; says how many differ.
 #[inline]
 fn refresh_cells(
-    cells: &mut Cells,
+    lines: &mut RowLines,
     shadow: &mut Shadow,
     graphics: &Graphics,
     tiles: &RowBytes,
     colours: &RowBytes,
 ) -> u32
-    requires drawn { IsDrawn graphics.now shadow.old cells.old }
-    ensures drawn { IsDrawn graphics.now shadow.new cells.new }
+    requires drawn { IsDrawn graphics.now shadow.old lines.old }
+    ensures drawn { IsDrawn graphics.now shadow.new lines.new }
     ensures shadow { shadow.new ≡ shadow_from tiles.now colours.now }
     ensures count { result ≡ differing_cells shadow.old tiles.now colours.now }
     ensures bound { result ≤ tiles_laws.columns }
 {
-    let mask = differing(shadow, tiles, colours);
-    let drawn = redraw(cells, graphics, tiles, colours, &mask);
+    let differing = draw_differing(lines, shadow, graphics, tiles, colours);
     shadow.tiles = *tiles;
     shadow.colours = *colours;
     shadow.stale = false;
-    drawn
+    differing
+}
+
+/// The same, and leaves the shadow.
+#[inline]
+fn draw_differing(
+    lines: &mut RowLines,
+    shadow: &Shadow,
+    graphics: &Graphics,
+    tiles: &RowBytes,
+    colours: &RowBytes,
+) -> u32
+    requires drawn { IsDrawn graphics.now shadow.now lines.old }
+    ensures drawn { IsDrawn graphics.now (shadow_from tiles.now colours.now) lines.new }
+    ensures count { result ≡ differing_cells shadow.now tiles.now colours.now }
+    ensures bound { result ≤ tiles_laws.columns }
+{
+    if shadow.stale {
+        draw_all(lines, graphics, tiles, colours);
+        return COLUMNS as u32;
+    }
+    let mask = differing(shadow, tiles, colours);
+    redraw(lines, graphics, tiles, colours, &mask);
+    marked(&mask)
 }
 
 /// Makes every cell of some rows count as differing.
@@ -155,38 +101,36 @@ fn make_stale(shadows: &mut [Shadow])
 }
 
 /// Fills a line with line y of the picture's cells, which are drawn for it alone.
-pub(crate) fn lay_line(graphics: &Graphics, screen: &Screen<'_>, y: u8, out: &mut [u8; WIDTH])
+pub(crate) fn lay_alone(graphics: &Graphics, screen: &Screen<'_>, y: u8, out: &mut [u8; WIDTH])
     requires { y < tile.height }
     ensures { out.new ≡ tabulate tile.width (λ x. kept_dot graphics.now (drawn_from screen.now (y / 8)) x y) }
 {
     let row = y / 8;
-    let mut cells = [[[0; 8]; 8]; COLUMNS];
-    let mut shadow = Shadow::new();
-    refresh_cells(
-        &mut cells,
-        &mut shadow,
+    let mut lines = [[0; WIDTH]; 8];
+    draw_all(
+        &mut lines,
         graphics,
         &screen.tiles(row),
         &screen.colours(row),
     );
-    lay_cells(&cells, y % 8, out);
+    lay_line(&lines, y % 8, out);
 }
 
-/// A row of the layer. The type of its cells is a parameter, since no rule of the borrow checker covers a literal of a struct with an array
+/// A row of the layer. The type of its lines is a parameter, since no rule of the borrow checker covers a literal of a struct with an array
 /// of arrays.
 #[derive(Clone, Copy)]
 pub(crate) struct Strip<R> {
-    /// Its cells as they were last drawn.
-    pub(crate) cells: R,
+    /// The lines of its cells as they were last drawn.
+    pub(crate) lines: R,
 }
 
 impl<R> Strip<R> {
-    /// The row of these cells.
+    /// The row of these lines.
     #[inline(always)]
-    fn of(cells: R) -> Strip<R>
-        ensures { result ≡ record { cells = cells } }
+    fn of(lines: R) -> Strip<R>
+        ensures { result ≡ record { lines = lines } }
     {
-        Strip { cells }
+        Strip { lines }
     }
 }
 
@@ -194,7 +138,7 @@ impl<R> Strip<R> {
 #[derive(Drop)]
 pub(crate) struct Layer {
     graphics: Graphics,
-    rows: [Strip<Cells>; ROWS as usize],
+    rows: [Strip<RowLines>; ROWS as usize],
     shadows: [Shadow; ROWS as usize],
 }
 
@@ -216,7 +160,7 @@ impl Layer {
     {
         Layer {
             graphics,
-            rows: repeated(Strip::of([[[0; 8]; 8]; COLUMNS])),
+            rows: repeated(Strip::of([[0; WIDTH]; 8])),
             shadows: repeated(Shadow::new()),
         }
     }
@@ -227,7 +171,7 @@ impl Layer {
     {
         Layer {
             graphics: Graphics::zeroed(),
-            rows: repeated(Strip::of([[[0; 8]; 8]; COLUMNS])),
+            rows: repeated(Strip::of([[0; WIDTH]; 8])),
             shadows: repeated(Shadow::new()),
         }
     }
@@ -289,7 +233,7 @@ impl Layer {
         let colours = screen.colours(row);
         let place = row as usize;
         refresh_cells(
-            &mut self.rows[place].cells,
+            &mut self.rows[place].lines,
             &mut self.shadows[place],
             &self.graphics,
             &tiles,
@@ -316,6 +260,6 @@ impl Layer {
         requires drawn { (shadow_at self.now.shadows (y / 8)).stale ≡ false }
         ensures { out.new ≡ tabulate tile.width (λ x. kept_dot self.now.roms (shadow_at self.now.shadows (y / 8)) x y) }
     {
-        lay_cells(&self.rows[(y / 8) as usize].cells, y % 8, out);
+        lay_line(&self.rows[(y / 8) as usize].lines, y % 8, out);
     }
 }

@@ -13,6 +13,7 @@ mod raw;
 mod screen;
 mod shadow;
 mod size;
+mod strip;
 
 pub use graphics::Graphics;
 pub use lines::{Lines, compose_alone};

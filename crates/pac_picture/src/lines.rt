@@ -15,7 +15,7 @@ ghost use Rattle.pac_picture.specs.CleanLines.{AreClean};
 
 use crate::clean::Clean;
 use crate::graphics::Graphics;
-use crate::layer::{Layer, lay_line};
+use crate::layer::{Layer, lay_alone};
 use crate::painting::paint_unless_none;
 use crate::raw::RawLines;
 use crate::screen::Screen;
@@ -53,7 +53,7 @@ pub fn compose_alone(graphics: &Graphics, screen: &Screen<'_>, y: u8, out: &mut 
 {
     let source = screen.source(y);
     let boxes = screen.boxes_on(source);
-    lay_line(graphics, screen, source, out);
+    lay_alone(graphics, screen, source, out);
     paint_unless_none(graphics, screen, boxes, source, out);
     turn(out, screen.flip());
 }

@@ -1,42 +1,19 @@
-//! A line of the picture: the cells of its row, and the sprites painted over them.
+//! A line of the picture: the sprites painted over the cells of its row.
 
-ghost use Rattle.std.specs.Prelude.{◌≡◌, ◌<◌, ◌*◌, ◌/◌, ◌%◌, ◌^◌, ◌==◌, ℕ, [], if◌then◌else◌};
-ghost use Rattle.std.specs.Prelude.{find, unwrap_or, length, slice_index, slice_index_or};
+ghost use Rattle.std.specs.Prelude.{◌≡◌, ◌<◌, ◌≤◌, ◌+◌, ◌-◌, ◌*◌, ◌/◌, ◌%◌, ◌^◌, ◌==◌, ◌&&◌, ℕ, nat_le, nat_lt, if◌then◌else◌};
+ghost use Rattle.std.specs.Prelude.{find, unwrap_or, slice_index};
 ghost use Rattle.pac_num.specs.Tabulate.{tabulate};
 ghost use Rattle.pac_tiles.specs.Tiles as tile;
 ghost use Rattle.pac_sprites.specs.Sprites as sprites;
 ghost use Rattle.pac_sprites.specs.SpritesProofs as sprites_proofs;
 ghost use Rattle.pac_picture.specs.Picture.{is_opaque, sprite_at, sprite_dot};
-ghost use Rattle.pac_picture.specs.Painting.{painted_number, over_line, cell_dot, AreBoxes};
+ghost use Rattle.pac_picture.specs.Painting.{painted_number, over_line, AreBoxes};
 
 use crate::graphics::Graphics;
 use crate::screen::Screen;
-use crate::size::{COLUMNS, WIDTH};
+use crate::size::WIDTH;
 use pac_sprites::Sprite;
-
-/// The colour numbers of a row of cells, each line by line.
-pub(crate) type Cells = [[[u8; 8]; 8]; COLUMNS];
-
-/// A cell's line by value: a copy can't overlap the picture's line, which is written without a test for that.
-#[inline(always)]
-fn copied(line: &[u8; 8]) -> [u8; 8]
-    ensures { result ≡ line.now }
-{
-    *line
-}
-
-/// Fills a line with line y, 0 to 7, of a row of cells.
-#[inline]
-pub(crate) fn lay_cells(cells: &Cells, y: u8, out: &mut [u8; WIDTH])
-    requires { y < 8 }
-    ensures { out.new ≡ tabulate tile.width (λ x. cell_dot cells.now x y) }
-{
-    for column in 0..COLUMNS {
-        let start = 8 * column;
-        let line = copied(&cells[column][y as usize]);
-        out[start..start + 8].copy_from_slice(&line);
-    }
-}
+use std::simd::prelude::*;
 
 /// A sprite's colour number painted over another: 0 is transparent.
 #[inline]
@@ -46,15 +23,86 @@ fn over(number: u8, below: u8) -> u8
     if number != 0 { number } else { below }
 }
 
-/// Paints a line of a sprite's colour numbers over a line of the picture.
-#[inline]
-fn paint_line(line: &[u8; 16], sprite: &Sprite, out: &mut [u8; WIDTH])
+/// Sixteen colour numbers of a sprite painted over others, at once.
+#[inline(always)]
+fn over_sixteen(numbers: &[u8; 16], below: &[u8; 16]) -> [u8; 16]
+    ensures { (k : ℕ) → k < 16 → slice_index result k ≡ painted_number (slice_index numbers.now k) (slice_index below.now k) }
+{
+    let numbers = u8x16::from_array(*numbers);
+    numbers
+        .simd_eq(u8x16::splat(0))
+        .select(u8x16::from_array(*below), numbers)
+        .to_array()
+}
+
+/// A line of a sprite as it is shown: flipped, or as it is.
+#[inline(always)]
+fn shown(line: &[u8; 16], flip: bool) -> [u8; 16]
+    ensures { (k : ℕ) → k < 16 → slice_index result k ≡ slice_index line.now (sprites.flipped_place flip k) }
+{
+    let line = u8x16::from_array(*line);
+    if flip {
+        line.shuffle(line, [15, 14, 13, 12, 11, 10, 9, 8, 7, 6, 5, 4, 3, 2, 1, 0])
+            .to_array()
+    } else {
+        line.to_array()
+    }
+}
+
+/// The sixteen numbers of a line from a column on.
+#[inline(always)]
+fn sixteen_of(line: &[u8; WIDTH], start: usize) -> [u8; 16]
+    requires { start ≤ 272 }
+    ensures { (k : ℕ) → k < 16 → slice_index result k ≡ slice_index line.now (start + k) }
+{
+    let mut numbers = [0; 16];
+    numbers.copy_from_slice(&line[start..start + 16]);
+    numbers
+}
+
+/// Writes sixteen numbers over those of a line from a column on.
+#[inline(always)]
+fn put_numbers(line: &mut [u8; WIDTH], start: usize, numbers: &[u8; 16])
+    requires { start ≤ 272 }
+    ensures { (x : ℕ) → x < tile.width → slice_index line.new x
+        ≡ (if nat_le start x && nat_lt x (start + 16) then slice_index numbers.now (x - start) else slice_index line.old x) }
+{
+    line[start..start + 16].copy_from_slice(numbers);
+}
+
+/// Paints sixteen numbers of a sprite over those of a line from a column on.
+#[inline(always)]
+fn paint_box(numbers: &[u8; 16], start: usize, out: &mut [u8; WIDTH])
+    requires { start ≤ 272 }
+    ensures { (x : ℕ) → x < tile.width → slice_index out.new x
+        ≡ (if nat_le start x && nat_lt x (start + 16)
+        then painted_number (slice_index numbers.now (x - start)) (slice_index out.old x) else slice_index out.old x) }
+{
+    let below = sixteen_of(out, start);
+    put_numbers(out, start, &over_sixteen(numbers, &below));
+}
+
+/// Paints a line of a sprite's colour numbers over a line of the picture, column by column.
+fn paint_columns(line: &[u8; 16], sprite: &Sprite, out: &mut [u8; WIDTH])
     ensures dots { (x : ℕ) → x < tile.width → slice_index out.new x ≡ over_line line.now sprite.now x (slice_index out.old x) }
 {
     let columns = sprite.columns();
     for x in columns.start..columns.end {
         let number = line[sprite.column_at(x) as usize];
         out[x as usize] = over(number, out[x as usize]);
+    }
+}
+
+/// Paints a line of a sprite's colour numbers over a line of the picture: at once where the whole box shows.
+#[inline]
+fn paint_line(line: &[u8; 16], sprite: &Sprite, out: &mut [u8; WIDTH])
+    ensures dots { (x : ℕ) → x < tile.width → slice_index out.new x ≡ over_line line.now sprite.now x (slice_index out.old x) }
+{
+    let columns = sprite.columns();
+    if columns.start + 16 == columns.end {
+        paint_box(&shown(line, sprite.flip_x), columns.start as usize, out);
+    } else {
+        paint_columns(line, sprite, out);
     }
 }
 

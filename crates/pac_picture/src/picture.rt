@@ -189,8 +189,8 @@ impl Picture {
         self.layer.set_stale();
     }
 
-    /// Composes the whole picture that the screen shows. Of its 1,008 cells only those are drawn again that differ
-    /// from what they were last drawn from, and `drawn` says then how many these were.
+    /// Composes the whole picture that the screen shows. Of its 1,008 cells those are drawn again that differ from
+    /// what they were last drawn from, each with the other of its two; `drawn` says then how many differed.
     pub fn compose(&mut self, screen: &Screen<'_>)
         ensures { self.new ≡ composed_picture screen.now self.old }
     {
@@ -200,7 +200,7 @@ impl Picture {
     }
 
     /// Composes line y of the picture that the screen shows, 0 to 223, and leaves the others. Of the 36 cells of the
-    /// row that it shows only those are drawn again that differ, and `drawn` says then how many these were. The line
+    /// row that it shows those are drawn again that differ, each with the other of its two; `drawn` says then how many differed. The line
     /// itself stays where neither a cell of this row nor a sprite on it has changed since it was composed.
     pub fn compose_line(&mut self, y: u8, screen: &Screen<'_>)
         requires { y < tile.height }

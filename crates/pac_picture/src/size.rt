@@ -1,6 +1,6 @@
 //! The size of the picture, in pixels and in cells.
 
-ghost use Rattle.std.specs.Prelude.{◌≡◌};
+ghost use Rattle.std.specs.Prelude.{◌≡◌, length};
 ghost use Rattle.pac_num.specs.Tabulate.{tabulate};
 
 /// The width of the picture, in pixels.
@@ -24,4 +24,13 @@ pub(crate) fn repeated<T: Copy, const N: usize>(value: T) -> [T; N]
     ensures { result ≡ tabulate N (λ _. value) }
 {
     [value; N]
+}
+
+/// N bytes, copied.
+#[inline]
+pub(crate) fn copied<const N: usize>(bytes: &[u8; N]) -> [u8; N]
+    ensures bytes { result ≡ bytes.now }
+    ensures size { length bytes.now ≡ N }
+{
+    *bytes
 }

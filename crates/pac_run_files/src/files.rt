@@ -71,7 +71,8 @@ pub trait FileSystem {
 
     /// The text of the link of this name in a folder; none where no link is there. What can't be looked at has an empty text.
     fn link(&self, alloc: Global, folder: &str, name: &str) -> Result<Option<String>, AllocError>
-        ensures { IfOk result (λ link. (finds self.now).link folder.now name.now (option_map string_bytes link)) };
+        ensures { IfOk result (λ link. (finds self.now).link folder.now name.now
+            (option_map string_bytes link)) };
 
     /// Creates a file, or empties it.
     fn create(&mut self, path: &str) -> Option<Self::File>

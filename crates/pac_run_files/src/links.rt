@@ -64,7 +64,8 @@ fn meet<D: FileSystem>(
     place: &mut PlaceReached,
     part: &str,
 ) -> Result<Met, AllocError>
-    ensures { IfOk result (λ met. MeetsPart (D.finds disk.now).link place.old part.now met place.new) }
+    ensures { IfOk result (λ met. MeetsPart (D.finds disk.now).link place.old part.now met
+        place.new) }
 {
     if let Some(text) = disk.link(alloc, place.path.as_str(), part)? {
         return Ok(Met::Link(text));
@@ -88,7 +89,8 @@ fn follow<'a, D: FileSystem>(
     place: &mut PlaceReached,
     text: &'a str,
 ) -> Result<Rest<'a>, AllocError>
-    ensures { IfOk result (λ rest. Follows (D.finds disk.now).link place.old (name_parts text.now) rest place.new) }
+    ensures { IfOk result (λ rest. Follows (D.finds disk.now).link place.old (name_parts text.now)
+        rest place.new) }
 {
     let mut left = text;
     'parts: while let Some((part, more)) = left.split_once('/') {
@@ -123,7 +125,8 @@ pub(crate) fn lead<D: FileSystem>(
     folder: &str,
     name: &str,
 ) -> Result<Option<String>, AllocError>
-    ensures { IfOk result (λ path. Leads (D.finds disk.now).link folder.now name.now (option_map string_bytes path)) }
+    ensures { IfOk result (λ path. Leads (D.finds disk.now).link folder.now name.now
+        (option_map string_bytes path)) }
 {
     let mut place = PlaceReached {
         path: String::from_str(alloc, folder)?,

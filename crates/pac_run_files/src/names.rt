@@ -3,7 +3,8 @@
 ghost use Rattle.std.specs.Prelude.{◌≡◌, ◌<◌, [], ◌∷◌, ◌++◌, Some, codes};
 ghost use Rattle.std.specs.Fmt.{WritesOnOk};
 ghost use Rattle.pac_num.specs.Hexadecimal as hexadecimal;
-ghost use Rattle.pac_run_files.specs.Names.{begins_below, climbs, is_within_folder, told_character, told_name};
+ghost use Rattle.pac_run_files.specs.Names.{begins_below, climbs, is_within_folder, told_character};
+ghost use Rattle.pac_run_files.specs.Names.{told_name};
 
 use pac_num::hex_byte;
 use std::fmt;
@@ -54,7 +55,8 @@ fn put_byte<W: fmt::Write>(f: &mut fmt::Formatter<W>, byte: u8) -> fmt::Result
 /// Writes the digits of a control character.
 #[tactic(auto, unfolding(pac_num::specs::Hexadecimal::hex_byte))]
 fn put_digits<W: fmt::Write>(f: &mut fmt::Formatter<W>, character: u8) -> fmt::Result
-    ensures { WritesOnOk W.write_str_gives f.old result (codes "\\x" ++ hexadecimal.hex_byte character) f.new }
+    ensures { WritesOnOk W.write_str_gives f.old result
+        (codes "\\x" ++ hexadecimal.hex_byte character) f.new }
 {
     let digits = hex_byte(character);
     f.write_str("\\x")?;

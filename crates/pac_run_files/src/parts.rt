@@ -4,7 +4,8 @@ ghost use Rattle.std.specs.Prelude.{◌≡◌, IfOk, Some, map};
 ghost use Rattle.std.specs.Result.{result_ok};
 ghost use Rattle.pac_roms_manifest.specs.Manifests.{manifest_of};
 ghost use Rattle.pac_run_files.specs.Files.{FirstUnread, IsUnread, MayFind, folder_of, standing_by};
-ghost use Rattle.pac_run_files.specs.Read.{HasParts, IsPart, manifest_part_names, part_files, told_file, told_part};
+ghost use Rattle.pac_run_files.specs.Read.{HasParts, IsPart, manifest_part_names, part_files};
+ghost use Rattle.pac_run_files.specs.Read.{told_file, told_part};
 ghost use Rattle.pac_run_files.specs.ReadProofs.{ReadsFiles};
 
 use crate::files::{FileKind, FileSystem};
@@ -51,8 +52,8 @@ fn read_bytes<'a, D: FileSystem>(
     set: &str,
     name: &'a str,
 ) -> Result<Vec<u8>, ReadFault<'a>>
-    ensures { ReadsFiles (λ bytes. MayFind (D.finds disk.now) (standing_by set.now name.now) (Some bytes.items))
-        (IsUnread (D.finds disk.now) (standing_by set.now name.now)) result }
+    ensures { ReadsFiles (λ bytes. MayFind (D.finds disk.now) (standing_by set.now name.now)
+        (Some bytes.items)) (IsUnread (D.finds disk.now) (standing_by set.now name.now)) result }
 {
     if !is_within(name) {
         return Err(ReadFault::Unreadable(name));
@@ -88,8 +89,10 @@ fn read_all<'a, D: FileSystem>(
     set: &str,
     names: &[&'a str],
 ) -> Result<Vec<NamedFile>, ReadFault<'a>>
-    ensures { ReadsFiles (λ parts. HasParts (D.finds disk.now) set.now (map (λ name. name.now) names.now) parts.items)
-        (FirstUnread (D.finds disk.now) (part_files set.now (map (λ name. name.now) names.now))) result }
+    ensures { ReadsFiles (λ parts. HasParts (D.finds disk.now) set.now
+        (map (λ name. name.now) names.now) parts.items)
+        (FirstUnread (D.finds disk.now) (part_files set.now (map (λ name. name.now) names.now)))
+        result }
 {
     let mut parts = Vec::new(alloc);
     for name in names {
@@ -111,8 +114,10 @@ pub fn read_parts<'a, D: FileSystem>(
     set: &str,
     manifest: &'a Option<Manifest>,
 ) -> Result<Vec<NamedFile>, ReadFault<'a>>
-    ensures { ReadsFiles (λ parts. HasParts (D.finds disk.now) set.now (manifest_part_names manifest.now) parts.items)
-        (FirstUnread (D.finds disk.now) (part_files set.now (manifest_part_names manifest.now))) result }
+    ensures { ReadsFiles (λ parts. HasParts (D.finds disk.now) set.now
+        (manifest_part_names manifest.now) parts.items)
+        (FirstUnread (D.finds disk.now) (part_files set.now (manifest_part_names manifest.now)))
+        result }
 {
     let Some(manifest) = manifest else {
         return Ok(Vec::new(alloc));

@@ -1,5 +1,5 @@
 -- What the words of a command line ask for, or what is wrong with them, from what clap says of them.
-use Rattle.std.proofs.Common.{◌≡◌, ◌∙◌, refl, sym, ap, subst, List, [], ◌∷◌, inl, inr, Option, Some, None, true}
+use Rattle.std.proofs.Common.{◌≡◌, ◌∙◌, refl, sym, ap, subst, List, [], inl, inr, Option, Some, None, true, arith, rules}
 use Rattle.std.specs.Prelude.{option_and_then}
 use Rattle.clap.specs.Kinds.{or_else}
 use Rattle.clap.specs.Walk.{Row, Text}
@@ -8,8 +8,7 @@ use Rattle.clap.specs.Words.{subcommand_rows_of}
 use Rattle.clap.specs.declared.error.Error.{Error}
 use Rattle.clap.specs.declared.error.kind.ErrorKind.TheVariants.{MissingRequiredArgument}
 use Rattle.clap.specs.declared.parser.matches.ArgMatches.{ArgMatches}
-use Rattle.pac_run_options.specs.CommandLine.{Asked, asked_command, conflict_of, faults_of, lack_of, own_faults_of, pacboard}
-use Rattle.pac_run_options.specs.CommandLine.{request_of, unless_refused}
+use Rattle.pac_run_options.specs.CommandLine.{Asked, asked_command, conflict_of, faults_of, lack_of, own_faults_of, pacboard, request_of}
 
 -- ---- from the command as it was made
 
@@ -31,18 +30,14 @@ its_command app words m is h = (h (ap is_simple is ∙ simple)).1 ∙ ap (λ (a 
 
 -- an error of the first kinds is one of both
 of_first : (e : Error) (kinds more : Kinds) → HasKind kinds e → HasKind (or_else kinds more) e
-of_first e [] more (inl k) = inl k
-of_first e [] more (inr none) = absurd none
-of_first e (k ∷ ks) more h = h
+of_first e kinds more h = search rules
 
 -- an error of clap is one of the command line
 pub its_fault : (app : App) (words : List Text) (e : Error) → app ≡ pacboard
     → (is_simple_and_free app ≡ true → HasKind (fault_of app words) e)
     → HasKind (faults_of words) e
 unfolding faults_of
-its_fault app words e is h =
-    of_first e (fault_of pacboard words) (own_faults_of (subcommand_of pacboard words))
-    (subst (λ (a : App). HasKind (fault_of a words) e) is (h (ap is_simple_and_free is ∙ free)))
+its_fault app words e is h = grind (arith, free, of_first)
 
 -- ---- where clap finds no fault
 
@@ -55,9 +50,7 @@ module _ (words : List Text) (command : Option (Text × List Row)) (none : fault
 
   -- one of the conflict is one of the command line
   pub its_conflict : (e : Error) → HasKind (conflict_of command) e → HasKind (faults_of words) e
-  its_conflict e h =
-      subst (λ (kinds : Kinds). HasKind kinds e) (sym own_left)
-      (of_first e (conflict_of command) (lack_of (option_and_then asked_command command)) h)
+  its_conflict e h = grind (arith, of_first, own_left)
 
   module _ (fine : conflict_of command ≡ []) where
     lack_left : faults_of words ≡ lack_of (option_and_then asked_command command)
@@ -76,6 +69,4 @@ module _ (words : List Text) (command : Option (Text × List Row)) (none : fault
     -- and that is the request
     pub its_request : (x : Asked) → option_and_then asked_command command ≡ Some x → request_of words ≡ Some x
     unfolding request_of
-    its_request x asked =
-        ap (λ (kinds : Kinds). unless_refused kinds (option_and_then asked_command (subcommand_of pacboard words))) (none_left x asked)
-        ∙ ap (option_and_then asked_command) (sym is) ∙ asked
+    its_request x asked = grind (arith, none_left)

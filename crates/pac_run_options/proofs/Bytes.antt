@@ -1,6 +1,5 @@
 -- What the text of the DIP switches reads as.
-use Rattle.std.proofs.Common.{◌≡◌, ◌∙◌, ◌<◌, ◌^◌, ℕ, Bool, cond, true, false, refl, sym, ap, List, Option, Some, None, Result, Ok, Err}
-use Rattle.std.proofs.Common.{arith}
+use Rattle.std.proofs.Common.{◌≡◌, ◌∙◌, ◌<◌, ◌^◌, ℕ, Bool, cond, true, false, refl, sym, ap, List, Option, Some, None, Result, Err, arith}
 use Rattle.std.specs.Prelude.{option_and_then}
 use Rattle.std.specs.Str.Parse.{IsNumeral, ParsesUnsigned, digits_value, without_leading_plus}
 use Rattle.clap.specs.Matches.{ReadsOne, one_text}
@@ -19,9 +18,7 @@ is_byte text numeral small = Accepts-accepts false (parser.Unsigned 0 255) text 
 -- what u8 reads from a text
 pub read_is : {E : Type 0} (gives : List ℕ → Result ℕ E → Type 0) (text : List ℕ) (r : Option ℕ)
     → ((u : List ℕ) (x : Result ℕ E) → gives u x → ParsesUnsigned 8 10 u x) → ReadsOne gives text r → r ≡ byte_of_text text
-read_is gives text (Some v) only h =
-    let parsed = only text (Ok v) h in
-    rw (is_byte text parsed.0.0 parsed.0.1) (ap (λ (n : ℕ). Some n) parsed.1)
+read_is gives text (Some v) only h = grind (arith, is_byte)
 read_is gives text None only h = go (is_unsigned_in 0 255 text) refl
   where
     go : (b : Bool) → is_unsigned_in 0 255 text ≡ b → None ≡ cond b (Some (digits_value 10 (without_leading_plus text))) None

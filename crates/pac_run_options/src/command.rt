@@ -51,7 +51,8 @@ fn program<'a>(alloc: Global) -> Command<'a>
 /// The subcommands, in the order of the help. A failure is handed on to the end: a way out here, with commands to drop, would cost far
 /// more to check.
 fn subcommands<'a>(alloc: Global) -> Result<Vec<Command<'a>>, AllocError>
-    ensures { IfOk result (λ commands. map app_of commands.items ≡ map command_line_proofs.app_of_command
+    ensures { IfOk result (λ commands. map app_of commands.items
+        ≡ map command_line_proofs.app_of_command
         (line.asm_command ∷ line.run_command ∷ line.debug_command ∷ line.dis_command ∷ [])) }
 {
     let commands = with_one_more(Ok(Vec::new(alloc)), asm_command(alloc));
@@ -66,7 +67,8 @@ fn with_one_more<T: Drop>(
     items: Result<Vec<T>, AllocError>,
     item: Result<T, AllocError>,
 ) -> Result<Vec<T>, AllocError>
-    ensures { IfOk result (λ r. (old : _) × (new : _) × (items ≡ Ok old) × (item ≡ Ok new) × (r.items ≡ old.items ++ new ∷ [])) }
+    ensures { IfOk result (λ r. (old : _) × (new : _) × (items ≡ Ok old) × (item ≡ Ok new)
+        × (r.items ≡ old.items ++ new ∷ [])) }
 {
     let mut items = items?;
     items.push(item?)?;
@@ -75,7 +77,8 @@ fn with_one_more<T: Drop>(
 
 /// `asm SOURCE --rom FILE --listing FILE`.
 fn asm_command<'a>(alloc: Global) -> Result<Command<'a>, AllocError>
-    ensures { IfOk result (λ command. app_of command ≡ command_line_proofs.app_of_command line.asm_command) }
+    ensures { IfOk result (λ command. app_of command
+        ≡ command_line_proofs.app_of_command line.asm_command) }
 {
     subcommand(
         alloc,
@@ -93,7 +96,8 @@ fn asm_command<'a>(alloc: Global) -> Result<Command<'a>, AllocError>
 /// `run`, by the name that the usage gives it: the options of a run, and the states that it begins and ends with,
 /// `[--load FILE] [--save FILE]`.
 fn run_command<'a>(alloc: Global, name: &'a str) -> Result<Command<'a>, AllocError>
-    ensures { IfOk result (λ command. app_of command ≡ command_line_proofs.app_of_command (line.command name.entry.now line.play_rules)) }
+    ensures { IfOk result (λ command. app_of command
+        ≡ command_line_proofs.app_of_command (line.command name.entry.now line.play_rules)) }
 {
     subcommand(
         alloc,
@@ -112,7 +116,8 @@ fn run_command<'a>(alloc: Global, name: &'a str) -> Result<Command<'a>, AllocErr
 
 /// `debug` with the options of a run and `--commands FILE`.
 fn debug_command<'a>(alloc: Global) -> Result<Command<'a>, AllocError>
-    ensures { IfOk result (λ command. app_of command ≡ command_line_proofs.app_of_command line.debug_command) }
+    ensures { IfOk result (λ command. app_of command
+        ≡ command_line_proofs.app_of_command line.debug_command) }
 {
     subcommand(
         alloc,
@@ -125,7 +130,8 @@ fn debug_command<'a>(alloc: Global) -> Result<Command<'a>, AllocError>
 
 /// `dis FILE`.
 fn dis_command<'a>(alloc: Global) -> Result<Command<'a>, AllocError>
-    ensures { IfOk result (λ command. app_of command ≡ command_line_proofs.app_of_command line.dis_command) }
+    ensures { IfOk result (λ command. app_of command
+        ≡ command_line_proofs.app_of_command line.dis_command) }
 {
     subcommand(
         alloc,
@@ -178,8 +184,8 @@ fn add_arguments<'a>(
     arguments: &mut Vec<Arg<'a>>,
     rows: &[Argument<'a>],
 ) -> Result<(), AllocError>
-    ensures { IfOk result (λ _.
-        map rule_of arguments.new.items ≡ map rule_of arguments.old.items ++ map told_argument rows.now) }
+    ensures { IfOk result (λ _. map rule_of arguments.new.items ≡ map rule_of arguments.old.items
+        ++ map told_argument rows.now) }
 {
     for row in rows {
         add(arguments, argument_of(alloc, *row))?;

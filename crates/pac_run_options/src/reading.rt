@@ -2,7 +2,8 @@
 
 ghost use Rattle.std.specs.Prelude.{◌≡◌, IfOk, Some, codes, map, option_and_then, option_map};
 ghost use Rattle.clap.specs.Takes.{is_given};
-ghost use Rattle.clap.specs.Words.{FailsBy, first_of, found_of, one_of, rows_of, subcommand_rows_of};
+ghost use Rattle.clap.specs.Words.{FailsBy, first_of, found_of, one_of, rows_of};
+ghost use Rattle.clap.specs.Words.{subcommand_rows_of};
 ghost use Rattle.pac_run_options.specs.CommandLine as line;
 ghost use Rattle.pac_run_options.specs.CommandLineProofs as command_line_proofs;
 
@@ -18,7 +19,8 @@ use std::convert::AsStr;
 /// An error is `clap`'s own, whose text says what is wrong or is the help or version that was asked for. Words that `clap`
 /// accepts are refused where they give a run both a state to begin with and the DIP switches, which stand in that state.
 pub fn options<'a, S: AsStr>(alloc: Global, words: &'a [S]) -> Result<Request<'a>, Error>
-    ensures asked { IfOk result (λ request. line.request_of (map S.text words.entry.now) ≡ Some (command_line_proofs.told_request request)) }
+    ensures asked { IfOk result (λ request. line.request_of (map S.text words.entry.now)
+        ≡ Some (command_line_proofs.told_request request)) }
     ensures refused { FailsBy (line.faults_of (map S.text words.entry.now)) result }
 {
     let matches = pacboard(alloc)?.try_get_matches_from(words)?;
@@ -75,7 +77,8 @@ fn dip_switches(values: &ArgMatches<'_>) -> Option<u8>
 
 /// What the matches of a command line ask for.
 fn request<'a>(matches: &ArgMatches<'a>) -> Option<Request<'a>>
-    ensures { option_map command_line_proofs.told_request result ≡ option_and_then line.asked_command (subcommand_rows_of matches.now) }
+    ensures { option_map command_line_proofs.told_request result
+        ≡ option_and_then line.asked_command (subcommand_rows_of matches.now) }
 {
     let (name, values) = matches.subcommand()?;
     match name {
@@ -89,7 +92,8 @@ fn request<'a>(matches: &ArgMatches<'a>) -> Option<Request<'a>>
 
 /// The files of `asm`, where all are there.
 fn asm_files<'a>(values: &ArgMatches<'a>) -> Option<AsmFiles<'a>>
-    ensures { option_map command_line_proofs.told_asm result ≡ line.asked_asm (rows_of (found_of values.now)) }
+    ensures { option_map command_line_proofs.told_asm result
+        ≡ line.asked_asm (rows_of (found_of values.now)) }
 {
     let source = text(values, "source")?;
     let rom = text(values, "rom")?;
@@ -103,7 +107,8 @@ fn asm_files<'a>(values: &ArgMatches<'a>) -> Option<AsmFiles<'a>>
 
 /// The files of `run`, where all are there that have to be.
 fn play_files<'a>(values: &ArgMatches<'a>) -> Option<PlayFiles<'a>>
-    ensures { option_map command_line_proofs.told_play result ≡ line.asked_play (rows_of (found_of values.now)) }
+    ensures { option_map command_line_proofs.told_play result
+        ≡ line.asked_play (rows_of (found_of values.now)) }
 {
     let run = run_files(values)?;
     Some(PlayFiles {
@@ -115,7 +120,8 @@ fn play_files<'a>(values: &ArgMatches<'a>) -> Option<PlayFiles<'a>>
 
 /// The files and switches of a run, where all are there that have to be.
 fn run_files<'a>(values: &ArgMatches<'a>) -> Option<RunFiles<'a>>
-    ensures { option_map command_line_proofs.told_run result ≡ line.asked_run (rows_of (found_of values.now)) }
+    ensures { option_map command_line_proofs.told_run result
+        ≡ line.asked_run (rows_of (found_of values.now)) }
 {
     let set = text(values, "set")?;
     let script = text(values, "script")?;
@@ -137,7 +143,8 @@ fn run_files<'a>(values: &ArgMatches<'a>) -> Option<RunFiles<'a>>
 
 /// The files of `debug`, where all are there.
 fn debug_files<'a>(values: &ArgMatches<'a>) -> Option<DebugFiles<'a>>
-    ensures { option_map command_line_proofs.told_debug result ≡ line.asked_debug (rows_of (found_of values.now)) }
+    ensures { option_map command_line_proofs.told_debug result
+        ≡ line.asked_debug (rows_of (found_of values.now)) }
 {
     let run = run_files(values)?;
     let commands = text(values, "commands")?;

@@ -10,6 +10,7 @@ const FAR = 600; // frames after the last one that was played in which a place i
 const MODES = { live: 'Live', replay: 'Played again', demo: 'Demo · press a key to play', paused: 'Paused', rested: 'At a breakpoint',
     stopped: 'Stopped', busy: 'Playing it again', preview: 'Preview; replayed' };
 const SHORT = 30; // frames below which no progress is told
+const WRITE = 1; // what an access was
 const PREVIEW = 'The new code goes on from where the old one was a second or two ago. Meanwhile all is played again under it, and takes its place.';
 
 export class Deck {
@@ -131,12 +132,18 @@ export class Deck {
     // Runs on, or back, to the next breakpoint.
     async toStop(isBack) {
         const { session } = this, { stops } = session;
-        if (!stops) tell('', 'There is no breakpoint.');
-        else if (await this.seeks((scout) => (isBack ? backTo(scout, stops) : onTo(scout, stops, this.ahead)),
-            isBack ? 'The processor wasn\'t at a breakpoint before.' : 'The processor comes to no breakpoint within the next ten seconds.')) {
-            session.rests();
-            this.show();
-        }
+        if (!stops) return tell('', 'There is no breakpoint.');
+        const met = await this.seeks((scout) => (isBack ? backTo(scout, stops) : onTo(scout, stops, this.ahead)),
+            isBack ? 'The processor wasn\'t at a breakpoint before.' : 'The processor comes to no breakpoint within the next ten seconds.');
+        if (met) session.rests(met);
+        this.show();
+    }
+
+    // What the run rests at: a breakpoint before an address, or an access, with the byte of it.
+    get resting() {
+        const { access, address, before, after } = this.session.rested.met;
+        if (access === 0) return MODES.rested;
+        return `${hex(address)} ${access === WRITE ? `written, ${hex(before, 2)} → ${hex(after, 2)}` : `read, ${hex(after, 2)}`}`;
     }
 
     // Steps over a call, or back over one.
@@ -181,7 +188,7 @@ export class Deck {
         const resting = session.isAtStop ? 'rested' : 'paused';
         const mode = run.stop ? 'stopped' : !studio.loop.isPlaying ? resting : session.isDemo ? 'demo' : session.isReplay ? 'replay' : 'live';
         at('mode').dataset.mode = this.busy ? 'busy' : mode;
-        at('mode').textContent = this.busy ?? MODES[mode];
+        at('mode').textContent = this.busy ?? (mode === 'rested' ? this.resting : MODES[mode]);
         at('mode').title = session.isPreview ? PREVIEW : '';
         at('stage').classList.toggle('preview', session.isPreview);
     }

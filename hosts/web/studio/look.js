@@ -28,20 +28,19 @@ export function stepBack(run) {
     return run;
 }
 
-const WRITES = 1; // what is watched of an address
-
 // A set of addresses, each with what it has there.
-function setOf(addresses, kind) {
+function setOf(pairs) {
     const set = new Uint8Array(ADDRESSES);
-    for (const address of addresses) set[address] = kind;
+    for (const [address, kinds] of pairs) set[address] = kinds;
     return set;
 }
 
-// What a run is to stop at: before addresses, and after writes to others; and what has to hold there, which is looked at where one of them is met
-// alone: by board and registers, and by the address that was written to, nothing where none was.
+// What a run is to stop at: before addresses, and after accesses to others, each with what is watched of it, 1 writes, 2 reads, 3 both; and what
+// has to hold there, which is looked at where one of them is met alone: by board and registers, and by the access, nothing where there was none.
 export class Stops {
-    constructor(addresses, holds = () => true, written = []) {
-        Object.assign(this, { places: setOf(addresses, 1), watched: written.length === 0 ? null : setOf(written, WRITES), holds });
+    constructor(addresses, holds = () => true, watched = []) {
+        const places = Array.from(addresses, (address) => [address, 1]);
+        Object.assign(this, { places: setOf(places), watched: watched.length === 0 ? null : setOf(watched), holds });
     }
 
     // Whether the run is at one of the addresses.
@@ -50,35 +49,38 @@ export class Stops {
         return this.places[registers.pc] !== 0 && this.holds(run.board, registers, null);
     }
 
-    // Whether it has come to a stop, by what was done last.
-    hasCome(run, { why, address }) {
-        return why === 'access' && this.holds(run.board, run.board.registers, address) || (why === 'place' || why === 'access') && this.isMet(run);
+    // The stop that it has come to, by what was done last: the access, or that it is at an address; nothing where it is at none.
+    met(run, ran) {
+        if (ran.why === 'access' && this.holds(run.board, run.board.registers, ran)) return ran;
+        return (ran.why === 'place' || ran.why === 'access') && this.isMet(run) ? { access: 0 } : null;
     }
 }
 
-// Goes on to the next stop within this frame, with one step at least: whether there is one. `heard` gets the samples.
+// Goes on to the next stop within this frame, with one step at least: that stop, if there is one. `heard` gets the samples.
 export function goesTo(run, stops, heard = () => undefined) {
     const { frame } = run;
     while (run.canGo && run.frame === frame) {
         const ran = run.part(FRAME_TICKS, stops.places, stops.watched);
         heard(ran.samples);
-        if (stops.hasCome(run, ran)) return true;
+        const met = stops.met(run, ran);
+        if (met) return met;
     }
-    return false;
+    return null;
 }
 
-// Goes on to the next stop, at the latest so many frames on: whether there is one.
+// Goes on to the next stop, at the latest so many frames on: that stop, if there is one.
 export function* onTo(run, stops, frames) {
     const last = run.frame + frames;
     while (run.canGo && run.frame < last) {
-        if (goesTo(run, stops)) return true;
+        const met = goesTo(run, stops);
+        if (met) return met;
         yield run.frame;
     }
     return false;
 }
 
-// Goes back to the last stop before this moment, at the earliest so many frames back: whether there is one. The last frame is looked through at
-// first, and then twice as many at a time, up to the stride that begins with a snapshot.
+// Goes back to the last stop before this moment, at the earliest so many frames back: that stop, if there is one. The last frame is looked through
+// at first, and then twice as many at a time, up to the stride that begins with a snapshot.
 export function* backTo(run, stops, frames = Infinity) {
     const begun = { frame: run.frame, inside: run.inside };
     const isBefore = ({ frame, inside }) => run.frame < frame || run.frame === frame && run.inside < inside;
@@ -86,13 +88,13 @@ export function* backTo(run, stops, frames = Infinity) {
         const last = end.inside > 0 ? end.frame : end.frame - 1, from = { frame: Math.max(last - last % STRIDE, last - size + 1), inside: 0 };
         let found = null;
         run.go(from.frame);
-        for (let isThere = stops.isMet(run); run.canGo && isBefore(end); isThere = goesTo(run, stops)) {
-            if (isThere) found = { frame: run.frame, inside: run.inside };
+        for (let met = stops.isMet(run) ? { access: 0 } : null; run.canGo && isBefore(end); met = goesTo(run, stops)) {
+            if (met) found = { frame: run.frame, inside: run.inside, met };
             yield run.frame;
         }
         if (found) {
             run.go(found.frame, found.inside);
-            return true;
+            return found.met;
         }
         end = from;
     }

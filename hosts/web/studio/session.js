@@ -70,16 +70,17 @@ export class Session {
     // Runs to the end of a frame: the samples; nothing where it comes to a stop before.
     toStop() {
         const { run } = this, pieces = [];
-        if (goesTo(run, this.stops, (samples) => pieces.push(samples))) {
-            this.rests();
+        const met = goesTo(run, this.stops, (samples) => pieces.push(samples));
+        if (met) {
+            this.rests(met);
             return null;
         }
         return pieces.length === 1 ? pieces[0] : Int16Array.from(pieces.flatMap((some) => [...some]));
     }
 
     // Keeps this moment as one at a stop.
-    rests() {
-        this.rested = { frame: this.run.frame, inside: this.run.inside };
+    rests(met) {
+        this.rested = { frame: this.run.frame, inside: this.run.inside, met };
     }
 
     // Whether the run rests at a stop.

@@ -289,8 +289,16 @@ async function breaking(page) {
     row('Ctrl F8 sets one at the caret', (await shown()) === `line ${call}  011D×`, await shown());
     await page.value("(({ field }) => { field.value = 'SING'; field.dispatchEvent(new Event('change')); })(studio.panes.all.stops)");
     row('and a name one at its address', (await shown()).endsWith(' / 0135×'), await shown());
-    await page.value("(({ written }) => { written.value = 'WORK'; written.dispatchEvent(new Event('change')); })(studio.panes.all.stops)");
+    const watches = (text) => page.value(`(({ watched }) => { watched.value = '${text}'; watched.dispatchEvent(new Event('change')); })(studio.panes.all.stops)`);
+    await watches('WORK');
     row('and one after writes to it', (await shown()).endsWith(' / written to  4C00×'), await shown());
+    await watches('rw WORK');
+    row('or after reads, too', (await shown()).endsWith(' / read or written to  4C00×'), await shown());
+    await watches('R 4C31');
+    await page.value('studio.panes.all.stops.all.splice(0, 3), studio.panes.all.stops.renew()');
+    await strikes('F8');
+    const told = await page.value("document.getElementById('mode').textContent");
+    row('and after reads alone, which are told', (await shown()) === 'read  4C31×' && /^4C31 read, [0-9A-F]{2}$/.test(told), `${await shown()} ${told}`);
     await page.value("studio.begin('hello', new TextDecoder().decode(studio.files['hello.asm']))");
     row('another source has none', (await shown()) === '' && await page.value('studio.session.stops === null'));
     await page.value(rest);

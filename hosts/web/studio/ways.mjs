@@ -6,15 +6,16 @@ import { traceOf } from '../blocks.mjs';
 import { conditionOf } from './conditions.js';
 import { Listing } from './listing.js';
 import { backOut, backOver, backTo, onTo, stepBack, stepOn, stepOut, stepOver, Stops } from './look.js';
-import { clocksOf, Run } from './run.js';
+import { beside, clocksOf, Run } from './run.js';
 import { Session } from './session.js';
 import { Tape, masksOf } from './tape.js';
+import { touchesOf } from './who.js';
 import { hex, textOf } from './bytes.js';
 
 const FIRST = 58, FRAMES = 3; // that are looked at step by step: a snapshot is among them
 const FAR = 5; // frames
 const COPY = 0x0117, MAIN = 0x53; // the LDIR that gives the sprites' places, and where the processor waits for an interrupt
-const WRITTEN = 0x5062; // one of these places
+const WRITTEN = 0x5062, READ = 0x4c32; // one of these places, and the byte that is copied there
 const CONDITIONS = [ // at the LDIR, and what has to hold of a moment
     ['BC = 9', ({ b, c }) => 256 * b + c === 9],
     ['C<>1 and HL >= PLACE', ({ c, h, l }) => c !== 1 && 256 * h + l >= 0x4c30],
@@ -196,8 +197,29 @@ function breakpoints(it, row) {
     for (const [condition, holds] of [['', () => true], ['IFF = 1', () => false]]) {
         const isWanted = conditionOf(condition, symbols), writes = all.filter((at) => it.at(at).pc === COPY && isAt(it.at(at), WRITTEN));
         const after = writes.map((at) => at + 1).filter((at) => holds(it.at(at))).join();
-        const stops = met(it, new Stops([], (board, registers, address) => address === WRITTEN && isWanted(board), [WRITTEN]));
+        const stops = met(it, new Stops([], (board, registers, { address }) => address === WRITTEN && isWanted(board), [[WRITTEN, 1]]));
         row(`after ${writes.length} writes to ${hex(WRITTEN)}H${condition && ` where ${condition}`}`, writes.length >= FRAMES && stops.every((one) => one === after));
+    }
+}
+
+// Watched accesses: each one of a kind with its byte, and no other, as the board shows it where that byte is another one.
+function accesses(it, row) {
+    const { module, roms, run } = it, touched = [], isWithin = () => run.frame < FIRST + FRAMES;
+    for (const touch of touchesOf(beside(run.go(FIRST + FRAMES), new Board(new WebAssembly.Instance(module, {}).exports, roms)), READ)) {
+        if (touch?.frame < FIRST) break;
+        if (touch) touched.push(touch);
+    }
+    for (const [kinds, name] of [[1, 'writes'], [2, 'reads'], [3, 'both']]) {
+        const stops = new Stops([], () => true, [[READ, kinds]]), told = [], back = [], tell = ({ access, address, before, after }) =>
+            `${it.steps} ${access} ${address} ${before} ${after}`;
+        const wanted = touched.filter(({ isWrite }) => kinds & (isWrite ? 1 : 2)).reverse()
+            .map(({ steps, isWrite, old, value }) => `${steps + 1} ${isWrite ? 1 : 2} ${READ} ${old} ${value}`);
+        run.go(FIRST);
+        for (let met; (met = end(onTo(run, stops, FRAMES))) && isWithin();) told.push(tell(met));
+        run.go(FIRST + FRAMES);
+        for (let met; (met = end(backTo(run, stops, FRAMES + 1))) && run.frame >= FIRST;) back.push(tell(met));
+        row(`${name} of ${hex(READ)}H: each of ${wanted.length}, and its byte`, wanted.length >= FRAMES && told.join() === wanted.join(), `${told} / ${wanted}`);
+        row('and back', back.reverse().join() === wanted.join(), `${back} / ${wanted}`);
     }
 }
 
@@ -228,5 +250,6 @@ export async function ways(files, assembler, { example, row }) {
     over(it, calls, row);
     out(it, calls, row);
     breakpoints(it, row);
+    accesses(it, row);
     await resting(it, row);
 }

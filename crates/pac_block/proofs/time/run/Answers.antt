@@ -1,7 +1,6 @@
 -- The buffer has all samples, since there is room for them.
 use Rattle.std.proofs.Common.{◌≡◌, ◌+◌, ◌-◌, ◌++◌, drop, ap, ◌∙◌, arith, rules}
-use Rattle.pac_board.specs.Calls.{outputs_given}
-use Rattle.pac_board.specs.Calls.{run_ticks}
+use Rattle.pac_board.specs.Calls.{outputs_given, run_ticks}
 use Rattle.pac_board.specs.Output.{sound_count, picture_count}
 use Rattle.pac_board.specs.State.{BoardValue, time_of}
 use Rattle.pac_block.specs.Codes.{ran_of}

@@ -1,5 +1,5 @@
 -- One more empty slot.
-use Rattle.std.proofs.Common.{◌≡◌, false, List, [], ◌∷◌, ◌++◌, length, sym, subst, ap, ◌∙◌, arith}
+use Rattle.std.proofs.Common.{◌≡◌, false, List, [], ◌∷◌, ◌++◌, arith}
 use Rattle.std.proofs.lemmas.List.{length-append}
 use Rattle.pac_debug_session.specs.declared.kept.SlotContents.{SlotContents}
 use Rattle.pac_debug_session.specs.Keeping.{AreEmpty}
@@ -10,11 +10,4 @@ one-more [] slot all one = (one, tt)
 one-more (first ∷ more) slot all one = (all.0, one-more more slot all.1 one)
 
 pub making-preserved : goal.making-preserved
-making-preserved c =
-    let count = c.making.invariant.count in
-    record {
-      count = ap length c.in_ok-push.ensures.items ∙ omega (arith, length-append c.making.slots.items (c.in_ok-new.field-0 ∷ []));
-      empty =
-          subst AreEmpty (sym c.in_ok-push.ensures.items)
-          (one-more c.making.slots.items c.in_ok-new.field-0 c.making.invariant.empty c.in_ok-new.ensures);
-    }
+making-preserved c = grind (arith, length-append, one-more)

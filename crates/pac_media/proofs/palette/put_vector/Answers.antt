@@ -1,7 +1,6 @@
-use Rattle.std.proofs.Common.{◌+◌, arith}
+use Rattle.std.proofs.Common.{arith}
 use Rattle.std.proofs.lemmas.Simd.{take_more_put_chunk}
 use Rattle.pac_media.proofs.palette.put_vector.Goals as goal
 
 pub returns-clause-text : goal.returns-clause-text
-returns-clause-text c =
-    take_more_put_chunk c.args.at c.args.pixels.now c.args.bytes (c.args.at + 16) (omega (arith, c.fits-bytes.0)) c.requires
+returns-clause-text c = grind (arith, take_more_put_chunk)

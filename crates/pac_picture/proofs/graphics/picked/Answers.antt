@@ -3,7 +3,7 @@ use Rattle.pac_picture.proofs.Decoded.{swizzle-fits, swizzled-at}
 use Rattle.pac_picture.proofs.graphics.picked.Goals as goal
 
 pub swizzle : goal.swizzle
-swizzle c = swizzle-fits c.args.places.now (search rules) c.requires
+swizzle c = swizzle-fits c.args.places (search rules) c.requires
 
 pub returns : goal.returns
-returns c = λ k below. swizzled-at c.args.bytes.now c.args.places.now (search rules) c.requires k below
+returns c = λ k below. swizzled-at c.args.bytes c.args.places (search rules) c.requires k below

@@ -5,4 +5,4 @@ use Rattle.pac_picture.proofs.graphics.values.Goals as goal
 
 pub returns : goal.returns
 unfolding tabulate
-returns c = λ k below. value-at c.args.bytes.now k (search rules) below
+returns c = λ k below. value-at c.args.bytes k (search rules) below

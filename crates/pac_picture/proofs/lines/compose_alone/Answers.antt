@@ -3,7 +3,7 @@ use Rattle.pac_picture.proofs.lines.compose_alone.Goals as goal
 
 pub returns : goal.returns
 returns c =
-    line-is c.args.graphics.now c.args.screen.now c.args.y c.lay_line.new.out c.paint_unless_none.new.out c.turn.new.out
-    (rw c.source-source.ensures.line at c.lay_line.ensures)
+    line-is c.args.graphics.now c.args.screen.now c.args.y c.lay_alone.new.out c.paint_unless_none.new.out c.turn.new.out
+    (rw c.source-source.ensures.line at c.lay_alone.ensures)
     (λ x across. rw c.source-source.ensures.line at (c.paint_unless_none.ensures.dots x across))
     c.paint_unless_none.array_long (rw c.flip.ensures at c.turn.ensures)

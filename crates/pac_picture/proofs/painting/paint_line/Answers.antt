@@ -1,31 +1,14 @@
-use Rattle.std.proofs.Common.{◌≡◌, ◌<◌, ◌≤◌, ℕ, true, false, refl, slice_index, rules, arith}
-use Rattle.std.proofs.lemmas.Bool.Decides.{nat_tests}
-use Rattle.std.proofs.lemmas.List.{places}
-use Rattle.pac_sprites.specs.Sprites.{is_column_of}
-use Rattle.pac_picture.proofs.Dots.{line-begin, line-step, line-end}
+use Rattle.std.proofs.Common.{◌≡◌, ◌<◌, ◌+◌, arith}
+use Rattle.pac_picture.proofs.Blended.{box-painted}
 use Rattle.pac_picture.proofs.painting.paint_line.Goals as goal
 
-pub loop-x-init : goal.loop-x-init
-loop-x-init c =
-    let off : (x : ℕ) → x < c.columns-columns.result.start → is_column_of c.args.sprite.now x ≡ false =
-    λ x before. rw (c.columns-columns.ensures.columns x) (grind (arith, nat_tests)) in
-    record { long = search rules; dots = line-begin c.args.line.now c.args.out.now c.args.sprite.now _ off }
-
-pub loop-x-preserved : goal.loop-x-preserved
-loop-x-preserved c =
-    let shows : is_column_of c.args.sprite.now c.loop-x.x ≡ true = rw (c.columns-columns.ensures.columns c.loop-x.x) (grind
-    (arith, nat_tests)) in
-    let inside : c.loop-x.x < 288 = omega (arith, c.loop-x-test.true, c.columns-columns.ensures.end) in
+pub returns-then-columns : goal.returns-then-columns
+returns-then-columns c =
+    let whole : c.columns-columns.result.end ≡ c.columns-columns.result.start + 16 = omega (arith, c.if-columns.true) in
+    let some : c.columns-columns.result.start < c.columns-columns.result.end = omega (arith, whole) in
+    let boxed = c.columns-columns.ensures.boxed some in
     record {
-      long = search (rules, places);
-      dots = line-step c.args.line.now c.args.out.now c.loop-x.out c.args.sprite.now c.loop-x.x
-          (slice_index c.args.line.now c.column_at.result) c.over.result shows
-          (rw c.column_at.ensures.column refl) c.over.ensures c.loop-x.invariant.long inside c.loop-x.invariant.dots;
+      dots = λ x across.
+          box-painted c.args.line.now c.shown.result c.args.out.now c.paint_box.new.out c.args.sprite.now c.columns-columns.result.start x
+          (rw whole at (c.columns-columns.ensures.columns x)) boxed.0 (rw whole at boxed.1) c.shown.ensures (c.paint_box.ensures x across);
     }
-
-pub returns : goal.returns
-returns c =
-    let off : (x : ℕ) → c.loop-x.x ≤ x → is_column_of c.args.sprite.now x ≡ false =
-    λ x past. let over : c.columns-columns.result.end ≤ x = omega (arith, past, c.loop-x-test.false) in rw
-    (c.columns-columns.ensures.columns x) (grind (arith, nat_tests)) in
-    record { dots = line-end c.args.line.now c.args.out.now c.loop-x.out c.args.sprite.now c.loop-x.x off c.loop-x.invariant.dots }

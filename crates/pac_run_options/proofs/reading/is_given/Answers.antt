@@ -16,5 +16,4 @@ returns-in-Some-CommandLine c =
 
 pub returns-in-None : goal.returns-in-None
 returns-in-None c =
-    c.contains_id.ensures
-    ∙ given_by-source (found_of c.args.values.now) c.args.id.now _ (sym c.in-None.is ∙ c.value_source.ensures)
+    cc (c.contains_id.ensures, given_by-source (found_of c.args.values.now) c.args.id.now _ (sym c.in-None.is ∙ c.value_source.ensures))

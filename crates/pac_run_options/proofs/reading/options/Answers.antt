@@ -31,11 +31,10 @@ returns-in-Some g c =
     let command = subcommand_rows_of matches in
     let none = no_fault app words c.in_ok-pacboard.ensures c.in_ok-matches.ensures.kinds in
     let is = its_command app words matches c.in_ok-pacboard.ensures c.in_ok-matches.ensures.matches in
-    let fine = c.in_ok-refuse_conflict.ensures in
     let asked = sym c.in-Some.ensures in
     record {
-      asked = its_request words command none is fine _ asked;
-      refused = none_left words command none is fine _ asked;
+      asked = its_request words command none is c.in_ok-refuse_conflict.ensures _ asked;
+      refused = none_left words command none is c.in_ok-refuse_conflict.ensures _ asked;
     }
 
 pub returns-clause-refused : goal.returns-clause-refused
@@ -43,7 +42,6 @@ returns-clause-refused g c =
     let words = map g.S.AsStr.text c.args.words.now in
     let app = app_of c.in_ok-pacboard.field-0 in
     let matches = c.in_ok-matches.matches in
-    its_lack words (subcommand_rows_of matches) (no_fault app words c.in_ok-pacboard.ensures c.in_ok-matches.ensures.kinds)
+    its_lack _ _ (no_fault app words c.in_ok-pacboard.ensures c.in_ok-matches.ensures.kinds)
     (its_command app words matches c.in_ok-pacboard.ensures c.in_ok-matches.ensures.matches) c.in_ok-refuse_conflict.ensures
-    c.in_ok-lack-in-None.field-0
-    (sym c.in-None.ensures) c.in_ok-lack-in-None.ensures
+    c.in_ok-lack-in-None.field-0 (sym c.in-None.ensures) c.in_ok-lack-in-None.ensures

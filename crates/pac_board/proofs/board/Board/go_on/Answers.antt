@@ -14,5 +14,6 @@ returns c =
     let time = c.time-near.ensures.time in
     let single = made.single (omega arith) in
     let none = ap (λ n. take n c.make_stretch.new.samples) single in
-    subst (λ (board : BoardValue). IsStretched old (old.state.now.time + 1) c.make_stretch.new.met (with_due board due)) (sym c.self.view_is)
+    subst (λ (board : BoardValue). IsStretched old (old.state.now.time + 1) c.make_stretch.new.met (with_due board due))
+    (sym c.self.view_is)
     (single-goes made.made (omega arith) none)

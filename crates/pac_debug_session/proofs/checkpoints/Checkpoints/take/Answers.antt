@@ -1,14 +1,10 @@
 -- The ring is full before and after: the oldest checkpoint goes, and another one comes.
-use Rattle.std.proofs.Common.{◌≡◌, ◌+◌, [], ◌∷◌, ◌++◌, length, drop, ap, sym, ◌∙◌}
+use Rattle.std.proofs.Common.{◌≡◌, ◌+◌, [], ◌∷◌, ◌++◌, length, drop, ap, ◌∙◌}
 use Rattle.circular_buffer.specs.Buffer.{Buffer, keep_last}
 use Rattle.pac_debug_session.specs.Keeping.{kept_of, ring_with_checkpoint}
 use Rattle.pac_debug_session.specs.declared.kept.SessionSnapshot.{SessionSnapshot}
-use Rattle.pac_debug_session.proofs.Rings.{one-for-one, as-many, has-first}
+use Rattle.pac_debug_session.proofs.Rings.{one-for-one, as-many}
 use Rattle.pac_debug_session.proofs.checkpoints.Checkpoints.take.Goals as goal
-
-pub unreachable-requires : goal.unreachable-requires
-unreachable-requires c =
-    has-first c.self.inside.ring.items c.self.invariant.count (sym c.pop_front.ensures.value ∙ c.in_default.is)
 
 pub invariant_of-self : goal.invariant_of-self
 invariant_of-self c =

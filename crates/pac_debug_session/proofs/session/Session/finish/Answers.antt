@@ -1,20 +1,14 @@
 -- To the end of the run.
-use Rattle.std.proofs.Common.{inl, inr, ap, ◌∙◌, arith}
+use Rattle.std.proofs.Common.{inl, inr, ◌∙◌, arith}
 use Rattle.std.proofs.lemmas.Result.{err_from_is_err_and}
 use Rattle.pac_board_course.specs.Course.{outcome_at}
 use Rattle.pac_board_course.specs.SinksLaws.{by}
-use Rattle.pac_board_course.specs.Step.{Moment}
 use Rattle.pac_debug_session.proofs.Finished.{finished, finish-refused}
-use Rattle.pac_debug_session.proofs.Travelled.{time-near}
+use Rattle.pac_debug_session.proofs.Ends.{time-near}
 use Rattle.pac_debug_session.proofs.session.Session.finish.Goals as goal
 
 pub outcome_on-requires : goal.outcome_on-requires
-outcome_on-requires g c =
-    let s = c.travel.new.self in
-    let near = time-near s.setting s.index in
-    let short = c.facts.ensures.short in
-    let time = ap (λ (m : Moment _). m.time) c.board.ensures.now in
-    omega arith
+outcome_on-requires g c = grind (arith, time-near)
 
 pub returns : goal.returns
 returns g c =
@@ -31,5 +25,4 @@ pub returns-in_err-ending : goal.returns-in_err-ending
 returns-in_err-ending g c =
     let told = err_from_is_err_and c.from_residual-in_err-ending.result c.from_residual-in_err-ending.ensures.1 in
     rw told.1
-    (inr (finish-refused (by g.S.Sink.took g.S.Sink.refused) c.args.self.now c.args.sink.now c.offer.new.sink c.in_ok-offer.ensures.1
-    c.offer.new.self c.travel.new.self c.travel.new.sink c.in_ok-offer.ensures.0 c.in_err-ending.ensures))
+    (inr (finish-refused _ _ _ _ c.in_ok-offer.ensures.1 _ _ _ c.in_ok-offer.ensures.0 c.in_err-ending.ensures))

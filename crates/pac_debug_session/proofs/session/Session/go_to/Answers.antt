@@ -31,13 +31,8 @@ invariant_of-self c =
       limit = c.self.invariant.limit;
       short = c.self.invariant.short;
       unasked = ap (λ (b : BoardValue). b.state.asked) back ∙ full.kept.unasked;
-      standing =
-          standing-there inside.switches inside.script inside.board.value c.put_back.new.board c.put_back.new.history slot.kept
-          inside.furthest
-          back c.put_back.ensures.history inside.checkpoints there.0;
-      slots =
-          right-there inside.switches inside.script inside.board.value c.put_back.new.board c.put_back.new.history slot.kept inside.furthest
-          back c.put_back.ensures.history inside.slots.items c.self.invariant.slots;
+      standing = grind (arith, standing-there);
+      slots = right-there inside.switches inside.script inside.board.value _ _ _ _ back c.put_back.ensures.history _ c.self.invariant.slots;
       breakpoints = c.self.invariant.breakpoints;
     }
 
@@ -47,8 +42,6 @@ returns c =
     let slot = c.index-slot.result.now in
     let back : c.put_back.new.board ≡ restored_board inside.board.value slot.kept.snapshot
     = c.put_back.ensures.board ∙ ap (λ (b : BoardValue). restored_board b slot.kept.snapshot) c.deref_mut.ensures.value in
-    let count = c.self.invariant.slots.count in
-    let within = c.requires.slot in
     let less : c.args.slot < length inside.slots.items = omega arith in
     let at : slot ≡ get_or inside.slots.items c.args.slot slot = c.index-slot.ensures in
     let filled : slot.filled ≡ true = c.if-not-slot.false in
@@ -56,16 +49,14 @@ returns c =
     filled in
     let index = slot.kept.snapshot.now.steps in
     let marks = map mark_of inside.slots.items in
-    let old = c.args.self.now in
-    let found : get_or old.slots c.args.slot None ≡ Some index
+    let found : get_or c.args.self.now.slots c.args.slot None ≡ Some index
     = ap (λ (s : SessionValue). get_or s.slots c.args.slot None) (sym c.self.view_is)
     ∙ mark-at (session_setting inside) inside.furthest inside.slots.items c.args.slot slot less at ∙ full.mark in
     let value : with_board inside.switches inside.script c.put_back.new.board inside.furthest inside.breakpoints marks inside.replayed
-    ≡ record old { index = index }
-    = value-there inside.switches inside.script inside.board.value c.put_back.new.board c.put_back.new.history slot.kept inside.furthest
-    back c.put_back.ensures.history inside.breakpoints marks inside.replayed index refl full.kept.nothing
+    ≡ record c.args.self.now { index = index }
+    = value-there inside.switches inside.script inside.board.value _ _ _ _ back c.put_back.ensures.history _ _ _ _ refl full.kept.nothing
     ∙ ap (λ (s : SessionValue). record s { index = index; due = nothing_due }) c.self.view_is
-    ∙ ap (λ due. record old { index = index; due = due }) (sym c.requires.nothing) in
-    subst (λ (mark : Option ℕ). ReturnsTo {E = Empty} old mark (Ok tt)
+    ∙ ap (λ due. record c.args.self.now { index = index; due = due }) (sym c.requires.nothing) in
+    subst (λ (mark : Option ℕ). ReturnsTo {E = Empty} c.args.self.now mark (Ok tt)
     (with_board inside.switches inside.script c.put_back.new.board inside.furthest inside.breakpoints marks inside.replayed))
     (sym found) value

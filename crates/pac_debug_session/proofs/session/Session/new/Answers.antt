@@ -1,5 +1,5 @@
 -- The session stands at the beginning of its run.
-use Rattle.std.proofs.Common.{◌≡◌, ◌*◌, [], length, map, ap, ◌∙◌, arith, rules}
+use Rattle.std.proofs.Common.{◌≡◌, ◌*◌, length, map, ap, ◌∙◌, arith, rules}
 use Rattle.pac_board_course.specs.Stretches.{held}
 use Rattle.pac_board_course.specs.State.{board_with_inputs}
 use Rattle.pac_debug_session.specs.Keeping.{mark_of}
@@ -12,21 +12,15 @@ invariant_of-result c =
     let board = c.args.board.value in
     let switches : c.peek-switches.result ≡ board.state.now.board.memory.switches = search rules in
     let hold : c.hold.new.board ≡ board_with_inputs board (held c.args.script 1) = search rules in
-    let count = c.frames.ensures.count in
-    let within = c.frames.ensures.within in
-    let frames = c.from-limit.ensures in
-    let none : c.in-Ok.breakpoints ≡ [] = c.in-Ok.ensures.5 in
     record {
-      limit = ap (λ n. 50688 * n) (frames ∙ count);
+      limit = ap (λ n. 50688 * n) (c.from-limit.ensures ∙ c.frames.ensures.count);
       short = omega arith;
       unasked = new-asked board c.hold.new.board c.args.script c.peek-switches.result switches c.requires hold;
-      standing =
-          stands-first board c.hold.new.board c.args.script c.peek-switches.result switches c.requires hold c.in-Ok.history
-          c.in-Ok.checkpoints c.in-Ok.ensures.0 c.in-Ok.ensures.1 c.in-Ok.ensures.2;
+      standing = stands-first _ _ c.args.script _ switches c.requires hold _ _ c.in-Ok.ensures.0 c.in-Ok.ensures.1 c.in-Ok.ensures.2;
       slots =
           right-empty (record { set = c.hold.new.board.set; switches = c.peek-switches.result; script = c.args.script })
           c.in-Ok.slots.items c.in-Ok.ensures.3 c.in-Ok.ensures.4;
-      breakpoints = omega (arith, ap length none);
+      breakpoints = omega (arith, ap length c.in-Ok.ensures.5);
     }
 
 pub returns-clause-session : goal.returns-clause-session
@@ -34,8 +28,6 @@ returns-clause-session c =
     let board = c.args.board.value in
     let switches : c.peek-switches.result ≡ board.state.now.board.memory.switches = search rules in
     let hold : c.hold.new.board ≡ board_with_inputs board (held c.args.script 1) = search rules in
-    let none : c.in-Ok.breakpoints ≡ [] = c.in-Ok.ensures.5 in
     ap (λ breakpoints. with_board c.peek-switches.result c.args.script c.hold.new.board 0 breakpoints (map mark_of c.in-Ok.slots.items) 0)
-    none
-    ∙ value-first board c.hold.new.board c.args.script c.peek-switches.result switches c.requires hold c.in-Ok.slots.items
-    c.in-Ok.ensures.3 c.in-Ok.ensures.4
+    c.in-Ok.ensures.5
+    ∙ value-first _ _ _ _ switches c.requires hold _ c.in-Ok.ensures.3 c.in-Ok.ensures.4

@@ -17,8 +17,7 @@ outcome_on-requires g c =
     stands-there (by g.S.Sink.took g.S.Sink.refused) old c.facts.ensures c.args.sink.now c.offer.new.sink c.in_ok-offer.ensures.1
     c.offer.new.self c.replay.new.self c.furthest-furthest.result c.in_ok-offer.ensures.0 c.furthest-furthest.ensures c.replay.ensures in
     subst (λ (board : BoardValue). board.state.now.time ≤ frame_ticks * (most_frames + 1)) (sym c.board.ensures)
-    (ends-near (by g.S.Sink.took g.S.Sink.refused) old c.facts.ensures c.args.sink.now c.offer.new.sink c.in_ok-offer.ensures.1
-    c.into_course-course.result c.run_to_end.new.self c.in_ok-stop.stop c.run_to_end.new.sink
+    (ends-near (by g.S.Sink.took g.S.Sink.refused) _ c.facts.ensures _ _ c.in_ok-offer.ensures.1 _ _ _ _
     (c.into_course-course.ensures ∙ ap course_of there) c.in_ok-stop.ensures)
 
 pub returns : goal.returns
@@ -29,8 +28,7 @@ returns g c =
     c.offer.new.self c.replay.new.self c.furthest-furthest.result c.in_ok-offer.ensures.0 c.furthest-furthest.ensures c.replay.ensures in
     let whole =
     played (by g.S.Sink.took g.S.Sink.refused) old c.facts.ensures c.args.sink.now c.offer.new.sink c.in_ok-offer.ensures.1
-    c.into_course-course.result c.run_to_end.new.self c.in_ok-stop.stop c.run_to_end.new.sink c.outcome_on.result
-    (c.into_course-course.ensures ∙ ap course_of there) c.in_ok-stop.ensures
+    c.into_course-course.result _ _ _ _ (c.into_course-course.ensures ∙ ap course_of there) c.in_ok-stop.ensures
     (c.outcome_on.ensures ∙ ap (λ (board : BoardValue). outcome_at board.state.now c.in_ok-stop.stop) c.board.ensures) in
     record { left = whole.0; finishes = whole.1 }
 
@@ -47,7 +45,6 @@ returns-in_err-stop g c =
     c.offer.new.self c.replay.new.self c.furthest-furthest.result c.in_ok-offer.ensures.0 c.furthest-furthest.ensures c.replay.ensures in
     let told = err_from_is_err_and c.from_residual-in_err-stop.result c.from_residual-in_err-stop.ensures.1 in
     let stays =
-    held-up (by g.S.Sink.took g.S.Sink.refused) old c.facts.ensures c.args.sink.now c.offer.new.sink c.in_ok-offer.ensures.1
-    c.into_course-course.result c.run_to_end.new.self c.run_to_end.new.sink (c.into_course-course.ensures ∙ ap course_of there)
+    held-up _ _ c.facts.ensures _ _ c.in_ok-offer.ensures.1 _ _ _ (c.into_course-course.ensures ∙ ap course_of there)
     c.in_err-stop.ensures in
     rw told.1 (record { left = stays.0; finishes = inr stays.1 })

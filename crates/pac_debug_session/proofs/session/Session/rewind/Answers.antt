@@ -1,9 +1,9 @@
 -- The session stands at the checkpoint.
-use Rattle.std.proofs.Common.{◌≡◌, ◌+◌, ◌-◌, ◌*◌, map, ap, subst, ◌∙◌, arith}
+use Rattle.std.proofs.Common.{◌≡◌, ◌+◌, ◌-◌, ◌*◌, ap, subst, ◌∙◌, arith}
 use Rattle.pac_board_course.specs.State.{BoardValue, nothing_due}
 use Rattle.pac_board_course.specs.StateLaws.{restored_board}
 use Rattle.pac_debug_session.specs.Inside.{IsStanding, session_setting}
-use Rattle.pac_debug_session.specs.Keeping.{mark_of, IsKeptAt}
+use Rattle.pac_debug_session.specs.Keeping.{IsKeptAt}
 use Rattle.pac_debug_session.specs.Motions.{checkpoint_steps, checkpoint_count}
 use Rattle.pac_debug_session.specs.Session.{SessionValue}
 use Rattle.pac_debug_session.proofs.Backwards.{checkpoint-there}
@@ -19,14 +19,10 @@ at : (c : After-put_back) → IsKeptAt (session_setting c.self.inside) (checkpoi
 at c =
     let ring = c.self.inside.checkpoints in
     let furthest : c.self.inside.furthest ≡ c.args.self.now.furthest = ap (λ (s : SessionValue). s.furthest) c.self.view_is in
-    let left = c.requires.left in
-    let few = c.self.invariant.standing.few in
-    let oldest = c.requires.kept in
     let place = checkpoint_count + c.args.number - ring.taken in
     let same : ring.taken + place - checkpoint_count ≡ c.args.number = omega arith in
     subst (λ n. IsKeptAt (session_setting c.self.inside) (checkpoint_steps * n) c.get-kept.result.now) same
-    (checkpoint-there (session_setting c.self.inside) ring.taken ring.kept place c.get-kept.result.now
-    c.self.invariant.standing.checkpoints c.get-kept.ensures (omega arith))
+    (checkpoint-there _ _ _ _ _ c.self.invariant.standing.checkpoints c.get-kept.ensures (omega arith))
 
 there : (c : After-put_back) → let kept = c.get-kept.result.now in
     IsStanding (session_setting c.self.inside) kept.snapshot.now kept.history c.self.inside.furthest c.self.inside.checkpoints
@@ -34,8 +30,7 @@ there : (c : After-put_back) → let kept = c.get-kept.result.now in
 there c =
     let furthest : c.self.inside.furthest ≡ c.args.self.now.furthest = ap (λ (s : SessionValue). s.furthest) c.self.view_is in
     let left = c.requires.left in
-    stands-at (session_setting c.self.inside) c.self.inside.furthest c.self.inside.board.value.state.now c.self.inside.history
-    c.self.inside.checkpoints (checkpoint_steps * c.args.number) c.get-kept.result.now c.self.invariant.standing (at c) (omega arith)
+    stands-at _ _ _ _ _ _ _ c.self.invariant.standing (at c) (omega arith)
 
 pub invariant_of-self : goal.invariant_of-self
 invariant_of-self c =
@@ -59,7 +54,6 @@ pub returns : goal.returns
 returns c =
     let inside = c.self.inside in
     let shared = (goal.at.returns c).After-put_back in
-    value-there inside.switches inside.script inside.board.value c.put_back.new.board c.put_back.new.history c.get-kept.result.now
-    inside.furthest (back shared) c.put_back.ensures.history inside.breakpoints (map mark_of inside.slots.items) inside.replayed
-    (checkpoint_steps * c.args.number) (there shared).1 (at shared).nothing
+    value-there inside.switches inside.script inside.board.value _ _ _ _ (back shared) c.put_back.ensures.history _ _ _
+    _ (there shared).1 (at shared).nothing
     ∙ ap (λ (s : SessionValue). record s { index = checkpoint_steps * c.args.number; due = nothing_due }) c.self.view_is

@@ -1,51 +1,23 @@
 -- From step to step.
-use Rattle.std.proofs.Common.{Option, ap, sym, subst, ◌∙◌}
+use Rattle.std.proofs.Common.{ap, sym, subst, ◌∙◌, rules}
 use Rattle.std.proofs.lemmas.Result.{err_from_is_err_and}
 use Rattle.pac_board_course.specs.SinksLaws.{by}
-use Rattle.pac_board_course.specs.Stop.{Stop}
 use Rattle.pac_debug_session.specs.declared.motion.MotionEnd.{MotionEnd}
 use Rattle.pac_debug_session.specs.Motions.{HasTravelled, motion_ending}
-use Rattle.pac_debug_session.specs.Strides.{HasStrode}
-use Rattle.pac_debug_session.proofs.Travelled.{underway-begins, underway-more, underway-late, underway-met, underway-stopped}
-use Rattle.pac_debug_session.proofs.Travelled.{underway-refused, time-falls}
+use Rattle.pac_debug_session.proofs.Travelled.{underway-more, underway-met, underway-stopped, underway-refused}
 use Rattle.pac_debug_session.proofs.session.Session.travel.Goals as goal
-
-pub onwards-init : goal.onwards-init
-onwards-init g c = record {
-  under =
-      underway-begins (by g.S.Sink.took g.S.Sink.refused) c.args.self.now c.args.motion c.args.sink.now c.facts.ensures
-      c.requires.nothing;
-  from_is = c.index-from.ensures;
-  blanks_is = c.blanks-blanks.ensures.count;
-  bound = c.blanks-blanks.ensures.bound;
-}
 
 pub onwards-preserved : goal.onwards-preserved
 onwards-preserved g c =
     let so_far = c.onwards.invariant in
     record {
       under =
-          underway-more (by g.S.Sink.took g.S.Sink.refused) c.args.self.now c.args.motion c.args.sink.now c.onwards.self c.onwards.sink
-          so_far.under c.index-from.result so_far.from_is c.stride.new.self c.stride.new.sink c.in_ok-stop.field-0
+          underway-more _ _ _ c.args.sink.now _ _ so_far.under _ so_far.from_is _ _ _
           (sym c.has_met.ensures ∙ c.if-has_met.false) c.in_ok-stop.ensures;
       from_is = so_far.from_is;
       blanks_is = so_far.blanks_is;
       bound = so_far.bound;
     }
-
-pub onwards-smaller : goal.onwards-smaller
-onwards-smaller g c =
-    let so_far = c.onwards.invariant in
-    time-falls (by g.S.Sink.took g.S.Sink.refused) c.args.self.now c.args.motion c.args.sink.now c.onwards.self c.onwards.sink
-    so_far.under c.index-from.result so_far.from_is c.stride.new.self c.stride.new.sink (sym c.is_late.ensures ∙ c.if-is_late.false)
-    (subst (λ (found : Option Stop). HasStrode g.S.Sink.took c.onwards.self c.args.motion c.index-from.result c.onwards.sink found
-    c.stride.new.self c.stride.new.sink) c.in_default.is c.in_ok-stop.ensures)
-
-pub returns-then-is_late : goal.returns-then-is_late
-returns-then-is_late g c =
-    let so_far = c.onwards.invariant in
-    underway-late (by g.S.Sink.took g.S.Sink.refused) c.args.self.now c.args.motion c.args.sink.now c.onwards.self c.onwards.sink
-    so_far.under c.index-from.result so_far.from_is (sym c.is_late.ensures ∙ c.if-is_late.true)
 
 pub returns-then-has_met : goal.returns-then-has_met
 returns-then-has_met g c =
@@ -53,8 +25,7 @@ returns-then-has_met g c =
     let word = c.word.ensures ∙ ap (motion_ending c.args.motion) c.breaks.ensures in
     subst (λ (why : MotionEnd). HasTravelled g.S.Sink.took c.args.self.now c.args.motion c.args.sink.now why c.onwards.self c.onwards.sink)
     (sym word)
-    (underway-met (by g.S.Sink.took g.S.Sink.refused) c.args.self.now c.args.motion c.args.sink.now c.onwards.self c.onwards.sink
-    so_far.under c.index-from.result so_far.from_is (sym c.is_late.ensures ∙ c.if-is_late.false)
+    (underway-met _ _ _ _ _ _ so_far.under _ so_far.from_is (sym c.is_late.ensures ∙ c.if-is_late.false)
     (sym c.has_met.ensures ∙ c.if-has_met.true))
 
 pub returns-in-Some : goal.returns-in-Some
@@ -63,13 +34,10 @@ returns-in-Some g c =
     underway-stopped (by g.S.Sink.took g.S.Sink.refused) c.args.self.now c.args.motion c.args.sink.now c.onwards.self c.stride.new.self
     c.onwards.sink c.stride.new.sink c.in-Some.stop c.index-from.result so_far.from_is so_far.under
     (sym c.is_late.ensures ∙ c.if-is_late.false) (sym c.has_met.ensures ∙ c.if-has_met.false)
-    (subst (λ (found : Option Stop). HasStrode g.S.Sink.took c.onwards.self c.args.motion c.index-from.result c.onwards.sink found
-    c.stride.new.self c.stride.new.sink) c.in-Some.is c.in_ok-stop.ensures)
+    (search rules)
 
 pub returns-in_err-stop : goal.returns-in_err-stop
 returns-in_err-stop g c =
     let so_far = c.onwards.invariant in
     rw (err_from_is_err_and c.from_residual.result c.from_residual.ensures.1).1
-    (underway-refused (by g.S.Sink.took g.S.Sink.refused) c.args.self.now c.args.motion c.args.sink.now c.onwards.self c.onwards.sink
-    so_far.under c.index-from.result so_far.from_is c.stride.new.self c.stride.new.sink (sym c.has_met.ensures ∙ c.if-has_met.false)
-    c.in_err-stop.ensures)
+    (underway-refused _ _ _ _ _ _ so_far.under _ so_far.from_is _ _ (sym c.has_met.ensures ∙ c.if-has_met.false) c.in_err-stop.ensures)

@@ -1,7 +1,7 @@
-use Rattle.std.proofs.Common.{◌≡◌, ℕ, ◌+◌, ◌-◌, ◌<◌, List, ◌∙◌, ap, pos, refl, replicate, subst, arith}
+use Rattle.std.proofs.Common.{◌≡◌, ℕ, ◌+◌, ◌-◌, ◌<◌, List, pos, replicate, subst, arith, rules}
 use Rattle.std.proofs.lemmas.Result.{err_from_is_err_and}
 use Rattle.pac_media.specs.Samples.{samples_text}
-use Rattle.pac_media.specs.Sound.{Sound, Gains, SoundFails}
+use Rattle.pac_media.specs.Sound.{Gains, SoundFails}
 use Rattle.pac_media.proofs.Gathered.{fails-within, finishes-after, gains-joined, gains-nothing, silence-more, silence-rest}
 use Rattle.pac_media.proofs.wave_file.WaveFile.finish.Goals as goal
 
@@ -20,17 +20,11 @@ pub returns-clause-written : goal.returns-clause-written
 returns-clause-written g c =
     let last : c.loop.counter ≡ c.args.self.now.owed = omega (arith, c.loop-test.false, c.loop.invariant.end_is, c.loop.invariant.owed) in
     finishes-after g.W.Out.refused c.flush.result c.flush.new.self
-    (subst (λ (count : ℕ). Gains g.W.Out.took c.args.self.now (samples_text (replicate count (pos 0))) c.loop.self) last
-    c.loop.invariant.given)
+    (search rules)
     c.flush.ensures.written
 
 pub loop-init : goal.loop-init
-loop-init g c = record {
-  given = gains-nothing c.args.self.now;
-  owed = omega arith;
-  end_is = ap (λ (sound : Sound g.row.W.Denot). sound.owed) c.self.view_is;
-  shut = λ failed. refl;
-}
+loop-init g c = grind (arith, gains-nothing)
 
 pub loop-preserved : goal.loop-preserved
 loop-preserved g c =
@@ -39,6 +33,5 @@ loop-preserved g c =
           (gains-joined c.loop.invariant.given c.in_ok-put.ensures.put);
       owed = omega (arith, c.loop-test.true, c.loop.invariant.owed, c.loop.invariant.end_is, c.in_ok-put.ensures.owed);
       end_is = c.loop.invariant.end_is;
-      shut = λ failed. let same = c.loop.invariant.shut failed in
-          c.put.ensures.later_unchanged (ap (λ (sound : Sound g.row.W.Denot). sound.file.failed) same ∙ failed) ∙ same;
+      shut = search rules;
     }

@@ -1,7 +1,6 @@
-use Rattle.std.proofs.Common.{ℕ, List, subst}
+use Rattle.std.proofs.Common.{ℕ, List, subst, rules}
 use Rattle.std.proofs.lemmas.Result.{err_from_is_err_and}
 use Rattle.pac_out.specs.CountedLaws.{Refuses}
-use Rattle.pac_out.specs.CountedProofs.{Stops}
 use Rattle.pac_media.proofs.Gathered.{fails-waiting}
 use Rattle.pac_media.proofs.wave_file.WaveFile.flush.Goals as goal
 
@@ -12,5 +11,4 @@ returns-in_err-put-clause-written g c =
     (fails-waiting g.met.W.Out.joined c.self.view_is
     (subst (λ (bytes : List ℕ). Refuses g.W.Out.took g.W.Out.refused c.self.inside.file bytes c.in_err-put.field-0.0 c.put.new.self)
     c.deref.ensures.0 c.in_err-put.ensures.put)
-    (subst (λ (bytes : List ℕ). Stops g.W.Out.took g.W.Out.refused c.self.inside.file bytes c.put.new.self)
-    c.deref.ensures.0 (c.in_err-put.ensures.stops c.in_ok-check_open.ensures.open)))
+    (search rules))

@@ -10,8 +10,7 @@ pub returns-clause-put : goal.returns-clause-put
 returns-clause-put g c =
     let some = subst (λ (sound : Sound g.row.W.Denot). 0 < sample_room sound) (sym c.self.view_is) c.requires in
     let left = room-left c.self.inside.file.failed (length c.self.inside.waiting.items) some in
-    let two = ap length c.bytes_of.ensures in
-    let room : length c.self.inside.waiting.items + length c.bytes_of.result ≤ 8192 = omega (arith, left, two) in
+    let room : length c.self.inside.waiting.items + length c.bytes_of.result ≤ 8192 = omega (arith, left) in
     let kept =
     subst (λ (kept : Bool). MatchBool kept (c.keep.new.waiting.items ≡ c.self.inside.waiting.items ++ c.bytes_of.result)
     (c.keep.new.waiting ≡ c.self.inside.waiting)) (c.keep.ensures.room room) c.keep.ensures.kept in

@@ -1,6 +1,6 @@
 use Rattle.std.proofs.Common.{◌≡◌, ◌<◌, ◌/◌, ◌∙◌, false, arith}
 use Rattle.pac_picture.specs.Layer.{shadow_at}
-use Rattle.pac_picture.specs.LayerProofs.{cells_at}
+use Rattle.pac_picture.specs.LayerProofs.{lines_at}
 use Rattle.pac_picture.proofs.Layers.{line-kept}
 use Rattle.pac_picture.proofs.layer.Layer.line.Goals as goal
 
@@ -9,5 +9,5 @@ returns c =
     let row : c.args.y / 8 < 28 = omega (arith, c.requires.y) in
     let drawn = c.self.invariant.drawn (c.args.y / 8) row in
     let fresh : (shadow_at c.self.inside.shadows (c.args.y / 8)).stale ≡ false = rw (← c.self.view_is) at c.requires.drawn in
-    c.lay_cells.ensures ∙ rw (← c.self.view_is) (line-kept c.self.inside.graphics (shadow_at c.self.inside.shadows
-    (c.args.y / 8)) (cells_at c.self.inside.rows (c.args.y / 8)) c.args.y drawn fresh)
+    c.lay_line.ensures ∙ rw (← c.self.view_is) (line-kept c.self.inside.graphics (shadow_at c.self.inside.shadows
+    (c.args.y / 8)) (lines_at c.self.inside.rows (c.args.y / 8)) c.args.y drawn fresh)

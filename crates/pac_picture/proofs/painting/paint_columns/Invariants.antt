@@ -1,6 +1,6 @@
 use Rattle.std.proofs.Common.{◌≡◌, ◌<◌, ℕ, length, get_or, nat_lt, if◌then◌else◌}
 use Rattle.pac_picture.specs.Painting.{over_line}
-use Rattle.pac_picture.proofs.painting.paint_line.Given as goal
+use Rattle.pac_picture.proofs.painting.paint_columns.Given as goal
 
 abbrev pub invariant-loop-x : goal.invariant-loop-x
 invariant-loop-x l = record {

@@ -1,0 +1,109 @@
+-- Sixteen numbers of a sprite at once: painted over others, flipped, and placed where its whole box shows.
+use Rattle.std.proofs.Common.{◌≡◌, ℕ, ℤ, pos, ◌+ℤ◌, ◌≤ℤ◌, ◌+◌, ◌-◌, ◌<◌, ◌≤◌, ◌&&◌, ◌++◌, Bool, not, true, false, nat_le, nat_lt, cond}
+use Rattle.std.proofs.Common.{if◌then◌else◌, List, [], ◌∷◌, length, get_or, map, replicate, refl, sym, ap, ◌∙◌, arith}
+use Rattle.std.proofs.lemmas.Simd.{tops_compared, get_or-sel_l, get_or-zip2, length-zip2}
+use Rattle.std.proofs.lemmas.List.{length-replicate, get_or-replicate, get_or_append_left}
+use Rattle.std.proofs.lemmas.Bool.{cases_Bool, cases_lt}
+use Rattle.std.proofs.lemmas.Bool.Decides.{nat_tests}
+use Rattle.std.proofs.lemmas.Int.{ints}
+use mathlib.Core.Logic.{inl, inr}
+use lib.Lanes.{zip2, sel_l, top, pick_l}
+use lib.Dec.{eqb}
+use borrow.Rule.Slice.PartMut.{put_mid}
+use mir.Syntax.{w8}
+use Rattle.pac_lemmas.proofs.Lists.{get_or-before-put_mid, get_or-after-put_mid, get_or-in-put_mid}
+use Rattle.pac_num.specs.Tabulate.{tabulate}
+use Rattle.pac_sprites.specs.declared.Sprite.{Sprite}
+use Rattle.pac_sprites.specs.Sprites.{is_column_of, box_place, flipped_place}
+use Rattle.pac_picture.specs.Painting.{painted_number, over_line}
+use Rattle.pac_picture.proofs.Strips.{picked-at}
+
+-- ---- numbers painted over others
+
+choice : (test : Bool) (number below : ℕ) → cond test below number ≡ (if not test then number else below)
+choice true number below = refl
+choice false number below = refl
+
+pub blended-at : (numbers below : List ℕ) (k : ℕ) → length numbers ≡ 16 → length below ≡ 16 → k < 16 →
+    get_or (sel_l (map (top 7) (zip2 (λ a b. cond (eqb a b) 255 0) numbers (replicate 16 0))) below numbers) k 0
+    ≡ painted_number (get_or numbers k 0) (get_or below k 0)
+blended-at numbers below k long long_below inside =
+    let zeros : List ℕ = replicate 16 0 in
+    let long_zeros : length zeros ≡ 16 = length-replicate {A = ℕ} 16 0 in
+    let tests : List Bool = zip2 eqb numbers zeros in
+    let long_tests : length tests ≡ 16 = length-zip2 eqb numbers zeros (long ∙ sym long_zeros) ∙ long in
+    let in_numbers : k < length numbers = omega (arith, long, inside) in
+    let in_below : k < length below = omega (arith, long_below, inside) in
+    let in_zeros : k < length zeros = omega (arith, long_zeros, inside) in
+    let in_tests : k < length tests = omega (arith, long_tests, inside) in
+    let test : get_or tests k false ≡ eqb (get_or numbers k 0) 0 =
+    get_or-zip2 eqb numbers zeros k 0 0 false in_numbers in_zeros
+    ∙ ap (eqb (get_or numbers k 0)) (get_or-replicate {A = ℕ} 16 k 0 0 inside) in
+    ap (λ (tests : List Bool). get_or (sel_l tests below numbers) k 0) (tops_compared w8 eqb numbers zeros)
+    ∙ (get_or-sel_l tests below numbers k 0 in_tests in_below in_numbers
+    ∙ (ap (λ (t : Bool). cond t (get_or below k 0) (get_or numbers k 0)) test
+    ∙ choice (eqb (get_or numbers k 0) 0) (get_or numbers k 0) (get_or below k 0)))
+
+-- ---- flipped numbers
+
+places-are : 15 ∷ 14 ∷ 13 ∷ 12 ∷ 11 ∷ 10 ∷ 9 ∷ 8 ∷ 7 ∷ 6 ∷ 5 ∷ 4 ∷ 3 ∷ 2 ∷ 1 ∷ 0 ∷ [] ≡ tabulate 16 (λ k. 15 - k)
+unfolding tabulate
+places-are = refl
+
+pub flipped-at : (line : List ℕ) (k : ℕ) → length line ≡ 16 → k < 16 →
+    get_or (pick_l 0 (line ++ line) (15 ∷ 14 ∷ 13 ∷ 12 ∷ 11 ∷ 10 ∷ 9 ∷ 8 ∷ 7 ∷ 6 ∷ 5 ∷ 4 ∷ 3 ∷ 2 ∷ 1 ∷ 0 ∷ [])) k 0
+    ≡ get_or line (15 - k) 0
+flipped-at line k long below =
+    let inside : 15 - k < length line = omega (arith, long) in
+    picked-at (line ++ line) _ (λ k. 15 - k) k places-are below ∙ get_or_append_left line line 0 (15 - k) inside
+
+-- ---- the columns of a box that shows whole
+
+pub piece-put : (line piece : List ℕ) (start part x : ℕ) → length line ≡ 288 → length piece ≡ 16 → part ≡ 16 → start ≤ 272 →
+    get_or (put_mid start part line piece) x 0
+    ≡ (if nat_le start x && nat_lt x (start + 16) then get_or piece (x - start) 0 else get_or line x 0)
+piece-put line piece start part x long sixteen is inside =
+    let room : start ≤ length line = omega (arith, long, inside) in
+    let whole : length piece ≡ part = sixteen ∙ sym is in
+    elim (cases_lt x start) [
+      | inl before ↦
+          let test : nat_le start x ≡ false = grind (arith, nat_tests, before) in
+          rw test (get_or-before-put_mid start part line piece x before room)
+      | inr past ↦
+          let first : nat_le start x ≡ true = grind (arith, nat_tests, past) in
+          elim (cases_lt x (start + 16)) [
+            | inl within ↦
+                let last : nat_lt x (start + 16) ≡ true = grind (arith, nat_tests, within) in
+                let place : start + (x - start) ≡ x = omega (arith, past) in
+                rw (first, last)
+                (ap (λ n. get_or (put_mid start part line piece) n 0) (sym place)
+                ∙ get_or-in-put_mid start part line piece (x - start) (omega (arith, is, past, within)) room whole)
+            | inr over ↦
+                let last : nat_lt x (start + 16) ≡ false = grind (arith, nat_tests, over) in
+                rw (first, last) (get_or-after-put_mid start part line piece x (omega (arith, is, over)) room whole)
+          ]
+    ]
+
+place-in : (left : ℤ) (start x : ℕ) → left ≤ℤ pos start → pos (start + 16) ≤ℤ (left +ℤ pos 16) → start ≤ x → box_place left x ≡ x - start
+place-in left start x from until past = grind (arith, ints)
+
+pub box-painted : (line shown old next : List ℕ) (sprite : Sprite) (start x : ℕ) →
+    (is_column_of sprite x ≡ (nat_le start x && nat_lt x (start + 16))) →
+    sprite.left ≤ℤ pos start → pos (start + 16) ≤ℤ (sprite.left +ℤ pos 16) →
+    ((k : ℕ) → k < 16 → get_or shown k 0 ≡ get_or line (flipped_place sprite.flip_x k) 0) →
+    get_or next x 0 ≡ (if nat_le start x && nat_lt x (start + 16)
+    then painted_number (get_or shown (x - start) 0) (get_or old x 0) else get_or old x 0) →
+    get_or next x 0 ≡ over_line line sprite x (get_or old x 0)
+unfolding over_line
+box-painted line shown old next sprite start x column from until is_shown painted =
+    painted
+    ∙ elim (cases_Bool (nat_le start x && nat_lt x (start + 16))) [
+      | inl within ↦
+          let past : start ≤ x = grind (arith, nat_tests, within) in
+          let near : x - start < 16 = grind (arith, nat_tests, within) in
+          let shows : is_column_of sprite x ≡ true = column ∙ within in
+          rw (within, shows, place-in sprite.left start x from until past, is_shown (x - start) near) refl
+      | inr outside ↦
+          let hides : is_column_of sprite x ≡ false = column ∙ outside in
+          rw (outside, hides) refl
+    ]

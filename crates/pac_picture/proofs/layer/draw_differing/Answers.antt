@@ -1,0 +1,18 @@
+use Rattle.std.proofs.Common.{sym, ◌∙◌}
+use Rattle.pac_picture.specs.Layer.{differing_cells}
+use Rattle.pac_picture.proofs.Counts.{count-same}
+use Rattle.pac_picture.proofs.Stale.{row-counts}
+use Rattle.pac_picture.proofs.Strips.{cells-kept}
+use Rattle.pac_picture.proofs.layer.draw_differing.Goals as goal
+
+pub returns-then-shadow-clause-count : goal.returns-then-shadow-clause-count
+returns-then-shadow-clause-count c = sym (row-counts c.args.shadow.now c.args.tiles.now c.args.colours.now c.if-shadow.true)
+
+pub returns-clause-drawn : goal.returns-clause-drawn
+returns-clause-drawn c = λ fresh.
+    cells-kept c.args.graphics.now c.args.shadow.now c.args.tiles.now c.args.colours.now c.differing-mask.result c.args.lines.now
+    c.redraw.new.lines c.requires.drawn c.if-shadow.false c.differing-mask.ensures c.redraw.ensures
+
+pub returns-clause-count : goal.returns-clause-count
+unfolding differing_cells
+returns-clause-count c = c.marked.ensures.count ∙ count-same _ _ 36 c.differing-mask.ensures
