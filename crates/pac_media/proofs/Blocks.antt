@@ -1,28 +1,20 @@
 -- An image that is made of pieces of one length, of which some are written over.
-use Rattle.std.proofs.Common.{◌≡◌, ℕ, zero, suc, ◌+◌, ◌*◌, ◌<◌, ◌≤◌, max, List, [], ◌∷◌, ◌++◌, rules, length, take, drop, get_or, set}
-use Rattle.std.proofs.Common.{slice_index, refl, sym, ap, subst, ◌∙◌, arith, append_assoc, append-nil, EachIndex, ◌↔◌, ◌^◌, IsTrue, eqb}
+use Rattle.std.proofs.Common.{◌≡◌, ℕ, zero, suc, ◌+◌, ◌*◌, ◌<◌, ◌≤◌, List, [], ◌∷◌, ◌++◌, rules, length, take, drop, get_or, set}
+use Rattle.std.proofs.Common.{slice_index, refl, sym, ap, subst, ◌∙◌, arith, append_assoc, append-nil, EachIndex}
 use Rattle.std.proofs.Common.{length-append, length-take, length-drop}
 use Rattle.std.proofs.Math.Seq.{take-append-add, drop-append-add, drop-cons}
-use Rattle.std.proofs.lemmas.Bool.{cases_lt, eqb-true}
-use Rattle.std.proofs.lemmas.List.{take_at, take_all, take-take, drop-take, drop-drop, take-append-drop, set_split, length-take-le}
+use Rattle.std.proofs.lemmas.Bool.{cases_lt}
+use Rattle.std.proofs.lemmas.List.{take_at, take_all, drop-drop, set_split, length-take-le}
 use Rattle.std.proofs.lemmas.List.{get_or-take, get_or-drop, get_or_append_left, get_or-append_right}
 use Rattle.std.proofs.lemmas.List.{flat_map_more, take_more, same_lists, get_or_default}
 use Rattle.std.proofs.lemmas.Slice.{take-put_mid}
-use Rattle.std.proofs.lemmas.Nat.Bits.{bit_at_or, bit_at_xor, bit_at-zero, bit_at-lt, same_from_bits}
 use borrow.Rule.Slice.PartMut.{put_mid}
-use Rattle.std.specs.Int.{w64, to_le_bytes, from_le_bytes, bit_at}
-use Rattle.std.specs.Int.Bits.{xor_self}
-use Rattle.std.specs.Int.RustNames.{bit_or, bit_xor}
 use Rattle.std.specs.List.{flat_map}
 use Rattle.std.proofs.lemmas.Grind.{flat_map-append, common_steps}
 use Rattle.pac_picture.specs.State.{IsPicture}
 use Rattle.pac_media.specs.Images.{palette_colour, header, ppm_of}
 use Rattle.pac_media.specs.Drawn.{AreColours, IsDrawnTo}
-
--- a list in two parts
-take-more : {X : Type 0} (n m : ℕ) (xs : List X) → take (n + m) xs ≡ take n xs ++ take m (drop n xs)
-take-more n m xs =
-    let short : n ≤ n + m = omega arith in cc (take-append-drop n (take (n + m) xs), take-take n (n + m) xs short, drop-take n m xs)
+use Rattle.pac_media.proofs.Words.{take-more}
 
 -- what each of these gives has one length
 abbrev pub ArePieces : {X Y : Type 0} → (X → List Y) → ℕ → X → List X → Type 0
@@ -39,33 +31,27 @@ length-pieces f size other (x ∷ xs) each =
     let rest = length-pieces f size other xs (rest-pieces f size other x xs each) in
     omega (arith, length-append (f x) (flat_map f xs), each 0 (omega arith), rest)
 
-take-pieces : {X Y : Type 0} (f : X → List Y) (size : ℕ) (other : X) (xs : List X) (count : ℕ) → ArePieces f size other xs →
-    count ≤ length xs → take (size * count) (flat_map f xs) ≡ flat_map f (take count xs)
-take-pieces f size other xs zero each fits = let none : size * 0 ≡ 0 = omega arith in rw none refl
-take-pieces f size other [] (suc count) each fits = absurd (omega (arith, fits))
-take-pieces f size other (x ∷ xs) (suc count) each fits =
+-- so many of them, and those after
+split-pieces : {X Y : Type 0} (f : X → List Y) (size : ℕ) (other : X) (xs : List X) (count : ℕ) → ArePieces f size other xs →
+    count ≤ length xs → (take (size * count) (flat_map f xs) ≡ flat_map f (take count xs))
+    × (drop (size * count) (flat_map f xs) ≡ flat_map f (drop count xs))
+split-pieces f size other xs zero each fits = let none : size * 0 ≡ 0 = omega arith in rw none (refl, refl)
+split-pieces f size other [] (suc count) each fits = absurd (omega (arith, fits))
+split-pieces f size other (x ∷ xs) (suc count) each fits =
     let sum : size * suc count ≡ length (f x) + size * count = omega (arith, each 0 (omega arith)) in
-    let rest = take-pieces f size other xs count (rest-pieces f size other x xs each) (omega (arith, fits)) in
-    rw sum (take-append-add (f x) (flat_map f xs) (size * count) ∙ ap (λ all. f x ++ all) rest)
-
-drop-pieces : {X Y : Type 0} (f : X → List Y) (size : ℕ) (other : X) (xs : List X) (count : ℕ) → ArePieces f size other xs →
-    count ≤ length xs → drop (size * count) (flat_map f xs) ≡ flat_map f (drop count xs)
-drop-pieces f size other xs zero each fits = let none : size * 0 ≡ 0 = omega arith in rw none refl
-drop-pieces f size other [] (suc count) each fits = absurd (omega (arith, fits))
-drop-pieces f size other (x ∷ xs) (suc count) each fits =
-    let sum : size * suc count ≡ length (f x) + size * count = omega (arith, each 0 (omega arith)) in
-    let rest = drop-pieces f size other xs count (rest-pieces f size other x xs each) (omega (arith, fits)) in
-    rw sum (drop-append-add (f x) (flat_map f xs) (size * count) ∙ rest)
+    let rest = split-pieces f size other xs count (rest-pieces f size other x xs each) (omega (arith, fits)) in
+    let rows = flat_map f xs in
+    rw sum (take-append-add (f x) rows (size * count) ∙ ap (λ all. f x ++ all) rest.0, drop-append-add (f x) rows (size * count) ∙ rest.1)
 
 -- some pieces written over by others
 put-pieces : {X Y : Type 0} (f : X → List Y) (size : ℕ) (other : X) (xs ys : List X) (at count : ℕ) → ArePieces f size other xs →
     at + count ≤ length xs → put_mid (size * at) (size * count) (flat_map f xs) (flat_map f ys) ≡ flat_map f (put_mid at count xs ys)
 put-pieces f size other xs ys at count each fits =
     let both : size * at + size * count ≡ size * (at + count) = omega arith in
-    let before = take-pieces f size other xs at each (omega (arith, fits)) in
+    let before = (split-pieces f size other xs at each (omega (arith, fits))).0 in
     let after : drop (size * count) (drop (size * at) (flat_map f xs)) ≡ flat_map f (drop count (drop at xs)) =
     drop-drop (size * count) (size * at) (flat_map f xs)
-    ∙ (cc (both, drop-pieces f size other xs (at + count) each fits, drop-drop count at xs)) in
+    ∙ (cc (both, (split-pieces f size other xs (at + count) each fits).1, drop-drop count at xs)) in
     grind (arith, flat_map-append)
 
 -- colour numbers
@@ -85,7 +71,7 @@ numbers-drop : (n : ℕ) (xs : List ℕ) → AreNumbers xs → AreNumbers (drop 
 numbers-drop n xs all k inside = rw (get_or-drop n xs k 0) (all (n + k) (omega (arith, inside, length-drop n xs)))
 
 -- the colours of a line have three bytes each
-pub line-pieces : (palette : List (List ℕ)) (numbers : List ℕ) → AreColours palette → EachIndex numbers (λ x. slice_index numbers x < 16) →
+pub line-pieces : (palette : List (List ℕ)) (numbers : List ℕ) → AreColours palette → AreNumbers numbers →
     ArePieces (palette_colour palette) 3 0 numbers
 line-pieces palette numbers three below k inside = three (get_or numbers k 0) (below k inside)
 
@@ -138,84 +124,6 @@ all-kept palette numbers pixels kept count all long is =
     let other : length numbers ≤ count = omega (arith, all, long) in
     sym (take_all count kept one) ∙ (is.same ∙ take_all count numbers other)
 
--- eight numbers and what they are as one word
-pub record IsWord (word : ℕ) (numbers : List ℕ) : Type 0 where
-  pub bytes : to_le_bytes w64 word ≡ numbers
-  pub back : from_le_bytes w64 numbers ≡ word
-
-pub is-word : (word : ℕ) (numbers : List ℕ) → word < 2 ^ 64 → to_le_bytes w64 word ≡ numbers → IsWord word numbers
-is-word word numbers fits read = search rules
-
--- 32 numbers by their blocks
-in-blocks : (start : ℕ) (xs : List ℕ) → take 32 (drop start xs)
-    ≡ take 8 (drop start xs) ++ (take 8 (drop (start + 8) xs) ++ (take 8 (drop (start + 16) xs) ++ take 8 (drop (start + 24) xs)))
-in-blocks start xs =
-    let second : start + 8 + 8 ≡ start + 16 = omega arith in
-    let third : start + 16 + 8 ≡ start + 24 = omega arith in
-    take-more 8 24 (drop start xs)
-    ∙ ap (λ rest. take 8 (drop start xs) ++ rest)
-    (ap (take 24) (drop-drop 8 start xs)
-    ∙ (take-more 8 16 (drop (start + 8) xs)
-    ∙ ap (λ rest. take 8 (drop (start + 8) xs) ++ rest)
-    (cc (drop-drop 8 (start + 8) xs, second, take-more 8 8 (drop (start + 16) xs), drop-drop 8 (start + 16) xs, third))))
-
-parts-same : (one other : List ℕ) (start : ℕ) → take 8 (drop start one) ≡ take 8 (drop start other) →
-    take 8 (drop (start + 8) one) ≡ take 8 (drop (start + 8) other) → take 8 (drop (start + 16) one) ≡ take 8 (drop (start + 16) other) →
-    take 8 (drop (start + 24) one) ≡ take 8 (drop (start + 24) other) → take 32 (drop start one) ≡ take 32 (drop start other)
-parts-same one other start first second third fourth = grind (arith, in-blocks)
-
--- what four pairs of words tell
-or-none : (a b : ℕ) → bit_or a b ≡ 0 → (a ≡ 0) × (b ≡ 0)
-or-none a b none =
-    let each : (i : ℕ) → (bit_at a i ≡ 0) × (bit_at b i ≡ 0) =
-    λ i.
-    let joined : bit_at (bit_or a b) i ≡ max (bit_at a i) (bit_at b i) = bit_at_or a b i in
-    (omega (arith, joined), omega (arith, joined)) in
-    (same_from_bits a 0 (λ i. (each i).0 ∙ sym (bit_at-zero i)), same_from_bits b 0 (λ i. (each i).1 ∙ sym (bit_at-zero i)))
-
-xor-none : (a b : ℕ) → bit_xor a b ≡ 0 → a ≡ b
-xor-none a b none =
-    same_from_bits a b (λ i.
-    omega (arith, bit_at_xor a b i, bit_at-lt a i, bit_at-lt b i))
-
--- eight of 32 numbers
-part-of : (place start before rest : ℕ) (xs : List ℕ) → place ≡ start + before → before + rest ≡ 32 → 8 ≤ rest →
-    take 8 (drop place xs) ≡ take 8 (drop before (take 32 (drop start xs)))
-part-of place start before rest xs is sum within =
-    cc (is, drop-drop before start xs, take-take 8 rest (drop before (drop start xs)) within, sum, drop-take before rest (drop start xs))
-
-same-word : (word other place start before rest : ℕ) (xs ys : List ℕ) → place ≡ start + before → before + rest ≡ 32 → 8 ≤ rest →
-    IsWord word (take 8 (drop place xs)) → IsWord other (take 8 (drop place ys)) → take 32 (drop start xs) ≡ take 32 (drop start ys) →
-    bit_xor word other ≡ 0
-same-word word other place start before rest xs ys is sum within one also equal =
-    let parts : take 8 (drop place xs) ≡ take 8 (drop place ys) =
-    cc (part-of place start before rest xs is sum within, equal, part-of place start before rest ys is sum within) in
-    ap (λ n. bit_xor n other) (sym one.back ∙ (ap (from_le_bytes w64) parts ∙ also.back)) ∙ xor_self other
-
-pub four-same : (one other : List ℕ) (start a b c d p q r s : ℕ) →
-    IsWord a (take 8 (drop start one)) → IsWord p (take 8 (drop start other)) →
-    IsWord b (take 8 (drop (start + 8) one)) → IsWord q (take 8 (drop (start + 8) other)) →
-    IsWord c (take 8 (drop (start + 16) one)) → IsWord r (take 8 (drop (start + 16) other)) →
-    IsWord d (take 8 (drop (start + 24) one)) → IsWord s (take 8 (drop (start + 24) other)) →
-    IsTrue (eqb (bit_or (bit_or (bit_or (bit_xor a p) (bit_xor b q)) (bit_xor c r)) (bit_xor d s)) 0)
-    ↔ (take 32 (drop start one) ≡ take 32 (drop start other))
-four-same one other start a b c d p q r s is_a is_p is_b is_q is_c is_r is_d is_s =
-    let equal : (m n : ℕ) (xs ys : List ℕ) → bit_xor m n ≡ 0 → IsWord m xs → IsWord n ys → xs ≡ ys =
-    λ m n xs ys none read also. sym read.bytes ∙ (ap (to_le_bytes w64) (xor-none m n none) ∙ also.bytes) in (
-      λ is.
-          let last = or-none _ _ (eqb-true _ 0 is) in
-          let third = or-none _ _ last.0 in
-          let second = or-none _ _ third.0 in
-          parts-same one other start (equal a p _ _ second.0 is_a is_p) (equal b q _ _ second.1 is_b is_q) (equal c r _ _ third.1 is_c is_r)
-          (equal d s _ _ last.1 is_d is_s),
-      λ same.
-          let first = same-word a p start start 0 32 one other (omega arith) (omega arith) (omega arith) is_a is_p same in
-          let second = same-word b q (start + 8) start 8 24 one other refl (omega arith) (omega arith) is_b is_q same in
-          let third = same-word c r (start + 16) start 16 16 one other refl (omega arith) (omega arith) is_c is_r same in
-          let fourth = same-word d s (start + 24) start 24 8 one other refl (omega arith) (omega arith) is_d is_s same in
-          rw (first, second, third, fourth) refl,
-    )
-
 -- each line of a picture has 864 bytes
 pub picture-pieces : (palette lines : List (List ℕ)) → AreColours palette → IsPicture lines →
     ArePieces (flat_map (palette_colour palette)) 864 [] lines
@@ -243,7 +151,7 @@ line-part palette lines y three picture below =
     let fits : y ≤ length lines = omega (arith, inside) in
     let long : length (f (get_or lines y [])) ≡ 864 = each y inside in
     let dropped : drop (15 + 864 * y) (header ++ flat_map f lines) ≡ f (get_or lines y []) ++ flat_map f (drop (suc y) lines) =
-    cc (drop-append-add header (flat_map f lines) (864 * y), drop-pieces f 864 [] lines y each fits, drop-cons lines y [] inside) in
+    cc (drop-append-add header (flat_map f lines) (864 * y), (split-pieces f 864 [] lines y each fits).1, drop-cons lines y [] inside) in
     ap (take 864) dropped ∙ take_at (f (get_or lines y [])) (flat_map f (drop (suc y) lines)) 864 long
 
 -- a line written over in an image

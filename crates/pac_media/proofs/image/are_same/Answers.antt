@@ -1,5 +1,5 @@
 use Rattle.std.proofs.Common.{arith}
-use Rattle.pac_media.proofs.Blocks.{is-word, four-same}
+use Rattle.pac_media.proofs.Words.{is-word, four-same}
 use Rattle.pac_media.proofs.image.are_same.Goals as goal
 
 pub returns : goal.returns
