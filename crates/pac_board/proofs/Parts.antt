@@ -18,7 +18,7 @@ use Rattle.pac_board.proofs.Pieces.{two-parts}
 use Rattle.pac_board.proofs.Walked.{walked-after}
 
 -- the first try of a walk that has time is a step
-first-try : (next : Moment BoardView → Next BoardView) (limit : ℕ) (from : Moment BoardView) (h : Next BoardView)
+pub first-try : (next : Moment BoardView → Next BoardView) (limit : ℕ) (from : Moment BoardView) (h : Next BoardView)
     → next from ≡ h → from.time < limit → walk next limit from (suc zero) ≡ walk_after_step (walk_at_start from) h
 first-try next limit from h is early =
     going-steps next limit (walk_at_start from) (open-goes-on limit (walk_at_start from) refl early)
@@ -85,7 +85,7 @@ step-on-the-way board microseconds due taken early parts =
     }
 
 -- after a step all of whose outputs were taken nothing is due
-none-due : (board : BoardValue) (h : Next BoardView) → due_outputs (board_after_step h (with_due board nothing_due) nothing_due) ≡ []
+pub none-due : (board : BoardValue) (h : Next BoardView) → due_outputs (board_after_step h (with_due board nothing_due) nothing_due) ≡ []
 none-due board (Goes now outputs kind) = refl
 none-due board (Ends stop) = refl
 

@@ -15,15 +15,15 @@ use Rattle.pac_board_model.proofs.Walks.{late-has-ended, more-joined, step-timel
 use Rattle.pac_board.specs.SinksLaws.{Giving, by}
 use Rattle.pac_board.specs.Sinks.{TookAll}
 use Rattle.pac_board.specs.State.{BoardValue, nothing_due, due_outputs}
-use Rattle.pac_board.specs.Calls.{next_of, board_after_step, outputs_in, with_due}
+use Rattle.pac_board.specs.Calls.{outputs_in, with_due}
 use Rattle.pac_board.specs.CallsLaws.{once_at, IsOfferRefused}
 use Rattle.pac_board.specs.Calls.{next_from_moment}
 use Rattle.pac_board.specs.Turns.{way_at, board_after_walk, HasGone, IsWayRefused}
 use Rattle.pac_machine.specs.Bursts.{stretch_end}
-use Rattle.pac_machine.specs.BurstsProofs.{line_end}
-use Rattle.pac_machine.specs.BurstsProofs.{outputs_of_step}
+use Rattle.pac_machine.specs.BurstsProofs.{line_end, outputs_of_step}
 use Rattle.pac_board.specs.Stretches.{stretch_of, batch_of, IsStretched, HasBatch, IsHeardUntil, IsLastTurn}
 use Rattle.pac_board.specs.Stretches.{HasStretched, IsStretchRefused}
+use Rattle.pac_board.specs.TurnsProofs.{IsTurn}
 use Rattle.pac_board.proofs.Pieces.{two-parts}
 use Rattle.pac_board.proofs.Sinks.{took-both, cut-along}
 use Rattle.pac_board.proofs.Turns.{IsUnderway, after-outputs, refused-goes, stepped-moved}
@@ -115,26 +115,13 @@ module _ {old : BoardValue} {near : ℕ} {stop : Option Stop} {given : List ℤ}
 -- ---- a turn, by its answer
 
 last-turn : {S : Type 0} (took : S → Output → S → Type 0) (between new : BoardValue) (sink later : S) (w : Walk BoardView)
-    (h : Next BoardView) (stop : Option Stop) → h ≡ next_of between → stop ≡ (walk_after_step w h).stop
-    → new ≡ board_after_step h between nothing_due → TookAll took sink (outputs_in h) later → IsLastTurn took between sink stop new later
-last-turn took between new sink later w (Goes now outputs kind) stop same met board all =
+    (h : Next BoardView) (time : ℕ) (stop : Option Stop) → stop ≡ (walk_after_step w h).stop
+    → IsTurn took between sink (once_at h time) new later → IsLastTurn took between sink stop new later
+last-turn took between new sink later w (Goes now outputs kind) time stop met turn =
     subst (λ (answer : Option Stop). IsLastTurn took between sink answer new later) (sym met)
-    (record {
-      ticks = _;
-      kind = kind;
-      turn = record {
-        board = board ∙ ap (λ (h : Next BoardView). board_after_step h between nothing_due) same;
-        once_is = ap (λ (h : Next BoardView). once_at h between.state.now.time) same;
-        sink_is = subst (λ (h : Next BoardView). TookAll took sink (outputs_in h) later) same all;
-      };
-    })
-last-turn took between new sink later w (Ends end) stop same met board all =
-    subst (λ (answer : Option Stop). IsLastTurn took between sink answer new later) (sym met)
-    (record {
-      board = board ∙ ap (λ (h : Next BoardView). board_after_step h between nothing_due) same;
-      once_is = ap (λ (h : Next BoardView). once_at h between.state.now.time) same;
-      sink_is = subst (λ (h : Next BoardView). TookAll took sink (outputs_in h) later) same all;
-    })
+    (record { ticks = _; kind = kind; turn = turn })
+last-turn took between new sink later w (Ends end) time stop met turn =
+    subst (λ (answer : Option Stop). IsLastTurn took between sink answer new later) (sym met) turn
 
 -- all that the stretch gave was taken
 pub stretch-taken : {S : Type 0} {took : S → Output → S → Type 0} {old mid new : BoardValue} {limit near : ℕ} {sink later : S}
@@ -144,18 +131,21 @@ pub stretch-taken : {S : Type 0} {took : S → Output → S → Type 0} {old mid
 stretch-taken {took} {old} {mid} {new} {limit} {near} {sink} {later} {stop} {given} asked less batch taken same all =
     let w = before_last batch in
     let h = last_next batch in
-    let board = same ∙ ap (λ (board : BoardValue). with_due board nothing_due) batch.board
-    ∙ ap (board_after_walk old) (last-is batch)
-    ∙ sym (stepped-moved old w h (last-later batch) (step-timely (by_view old.set) w.now)) in
     record {
       given = given;
       between = board_after_walk old w;
       before = heard-before batch limit less;
       asked = asked;
       batch = taken;
-      turn = last-turn took (board_after_walk old w) new asked later w h stop refl
-          (batch.stop_is ∙ ap (λ (v : Walk BoardView). v.stop) (last-is batch)) board
-          (subst (λ (xs : List Output). TookAll took asked xs later) (last-outputs batch) all);
+      turn = last-turn took (board_after_walk old w) new asked later w h w.now.time stop
+          (batch.stop_is ∙ ap (λ (v : Walk BoardView). v.stop) (last-is batch))
+          (record {
+            board =
+                same ∙ ap (λ (board : BoardValue). with_due board nothing_due) batch.board ∙ ap (board_after_walk old) (last-is batch)
+                ∙ sym (stepped-moved old w h (last-later batch) (step-timely (by_view old.set) w.now));
+            once_is = refl;
+            sink_is = subst (λ (xs : List Output). TookAll took asked xs later) (last-outputs batch) all;
+          });
     }
 
 -- some of it was refused
@@ -194,7 +184,7 @@ module _ {S : Type 0} {took : S → Output → S → Type 0} {start : BoardValue
       → TookAll took taker (map Sound given) asked → IsOn between asked
   is-on between given asked before taken =
       let next = step (by_view start.set) in
-      let timely : (now : Moment BoardView) → IsTimely now (next now) = step-timely (by_view start.set) in
+      let timely : (now : Moment BoardView) → IsTimely now (next now) = λ now. step-timely (by_view start.set) now in
       let v = way_at start limit under.steps in
       let heard = subst (λ (b : BoardValue). IsHeardUntil b limit given between) under.board_is before in
       let u = walk next limit v.now heard.steps in
@@ -216,8 +206,8 @@ module _ {S : Type 0} {took : S → Output → S → Type 0} {start : BoardValue
               (ap (λ (xs : List Output). v.outputs ++ xs) (sym heard.heard) ∙ ap (λ (w : Walk BoardView). w.outputs) joins)
               (took-both took v.outputs (map Sound given) sink taker asked under.sink_is taken);
         };
-        later = let longer = from_there.time in omega arith;
-        early = let soon = heard.early in omega arith;
+        later = omega (arith, from_there.time);
+        early = omega (arith, heard.early);
       }
 
   -- a stretch that goes on, one that meets a stop, and one that is refused
