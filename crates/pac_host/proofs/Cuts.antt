@@ -1,15 +1,12 @@
 -- Time on a live board that is cut anyhow is the time of one call.
-use Rattle.std.proofs.Common.{◌≡◌, ◌≤◌, ◌<◌, ℕ, ℤ, ◌+◌, List, [], ◌∷◌, ◌++◌, take, drop, Option}
-use Rattle.std.proofs.Common.{Bool, refl, sym, ap, subst, ◌∙◌, append_assoc, arith}
-use Rattle.std.proofs.lemmas.List.{append-nil}
+use Rattle.std.proofs.Common.{◌≡◌, ◌≤◌, ◌<◌, ℕ, ℤ, ◌+◌, List, [], ◌∷◌, ◌++◌, take, drop, refl, sym, ap, subst, ◌∙◌, append_assoc, arith}
 use Rattle.pac_board_model.proofs.Walks.{goes-on, joined, on-the-way, step-timely}
 use Rattle.pac_board.proofs.Parts.{steps-are-parts}
 use Rattle.pac_board.proofs.Pieces.{two-parts}
 use Rattle.pac_board.proofs.Walked.{walked-after}
 use Rattle.pac_board.specs.BoardView.{BoardView}
 use Rattle.pac_board.specs.Due.{Due}
-use Rattle.pac_board.specs.Access.{Access}
-use Rattle.pac_board.specs.Calls.{board_after_step, board_after_walk, course, next_of, outputs_given, way, way_at, with_due}
+use Rattle.pac_board.specs.Calls.{board_after_step, board_after_walk, course, next_of, outputs_given, way_at, with_due}
 use Rattle.pac_board.specs.CallsLaws.{once_of_board}
 use Rattle.pac_board.specs.Laws.{IsOnTheWay, TimeCanBeCut}
 use Rattle.pac_board.specs.Output.{Output, sound_count}
@@ -17,18 +14,16 @@ use Rattle.pac_board.specs.Sinks.{TookAll}
 use Rattle.pac_board.specs.SinksLaws.{Giving, by}
 use Rattle.pac_board.specs.State.{BoardValue, due_outputs, nothing_due, time_of}
 use Rattle.pac_board.specs.Step.{Next, Goes, Ends, step}
-use Rattle.pac_board.specs.Stop.{Stop}
 use Rattle.pac_board.specs.Trace.{by_view}
 use Rattle.pac_board.specs.Walk.{Walk, walk_to}
-use Rattle.pac_host.specs.declared.live_until.Ended.{Ended}
-use Rattle.pac_host.specs.declared.live_until.Ended.TheVariants.{TimeOver, AtPlace, AtStop, BufferFull, AtAccess}
 use Rattle.pac_host.specs.declared.live_until.PacUntil.{PacUntil}
 use Rattle.pac_block.specs.declared.ran.PacRan.{PacRan}
 use Rattle.pac_host.specs.CutLaws.{TimeCall, GoUntil, MakeStep, PassTime, asked_by, GiveInTime, AnyCutsAreOneTime}
 use Rattle.pac_block.specs.Host.{board_after_exec, samples_given, state_left}
 use Rattle.pac_host.specs.LiveStep.{HasStepped, outputs_of_one}
 use Rattle.pac_host.specs.LiveTime.{HasRunOn}
-use Rattle.pac_host.specs.LiveUntil.{HasGoneFor, HasComeTo, HasFilled, WentBy}
+use Rattle.pac_host.specs.LiveUntil.{HasGoneFor}
+use Rattle.pac_host.proofs.UntilGiven.{IsAlong, along}
 use Rattle.pac_block.proofs.Sounding.{samples-append}
 use Rattle.pac_block.proofs.Stops.{left-in-parts}
 use Rattle.pac_block.proofs.TimeParts.{head-is, told-samples}
@@ -60,36 +55,14 @@ walk-on-the-way old microseconds tries due taken w is parts =
       stop_is = ap (λ (v : Walk BoardView). v.stop) whole;
     }
 
-come-on-the-way : {ended : Ended} {here : ℕ → Bool} {limit : ℕ} {stop : Option Stop} {met : Option Access} (old new : BoardValue) (microseconds : ℕ)
-    (given : List Output) → limit ≤ time_of (old.state.asked + microseconds) → HasComeTo ended here limit old given stop met new
-    → IsOnTheWay old new microseconds given
-come-on-the-way old new microseconds given within come =
-    let next = step (by_view old.set) in
+along-the-way : (old new : BoardValue) (microseconds limit : ℕ) (given : List Output) → limit ≤ time_of (old.state.asked + microseconds)
+    → IsAlong limit old given new → IsOnTheWay old new microseconds given
+along-the-way old new microseconds limit given within is =
     let last = time_of (old.state.asked + microseconds) in
-    let less = come.within in
-    let on = on-the-way next come.end last old.state.now come.end (omega (arith, less, within)) in
-    subst (λ (b : BoardValue). IsOnTheWay old b microseconds given) (sym come.board)
-    (walk-on-the-way old microseconds on.0 nothing_due given (way old come.end) on.1
-    (sym come.given_is ∙ sym (append-nil given)))
-
-fill-on-the-way : {here : ℕ → Bool} {limit room : ℕ} (old new : BoardValue) (microseconds : ℕ) (given : List Output)
-    → limit ≤ time_of (old.state.asked + microseconds) → HasFilled here limit room old given new → IsOnTheWay old new microseconds given
-fill-on-the-way {here} {limit} old new microseconds given within filled =
-    let next = step (by_view old.set) in
-    let last = time_of (old.state.asked + microseconds) in
-    let on = on-the-way next limit last old.state.now filled.steps within in
-    subst (λ (b : BoardValue). IsOnTheWay old b microseconds given) (sym filled.board)
-    (walk-on-the-way old microseconds on.0 new.state.due given (way_at old limit filled.steps) on.1
-    (filled.outputs ∙ ap (λ (b : BoardValue). given ++ due_outputs b) filled.board))
-
-went-on-the-way : (ended : Ended) (here : ℕ → Bool) (limit room : ℕ) (stop : Option Stop) (met : Option Access) (old new : BoardValue)
-    (microseconds : ℕ) (given : List Output) → limit ≤ time_of (old.state.asked + microseconds) → WentBy ended here limit room old given stop met new
-    → IsOnTheWay old new microseconds given
-went-on-the-way BufferFull here limit room stop met old new microseconds given within went = fill-on-the-way old new microseconds given within went.0
-went-on-the-way TimeOver here limit room stop met old new microseconds given within went = come-on-the-way old new microseconds given within went
-went-on-the-way AtPlace here limit room stop met old new microseconds given within went = come-on-the-way old new microseconds given within went
-went-on-the-way AtStop here limit room stop met old new microseconds given within went = come-on-the-way old new microseconds given within went
-went-on-the-way AtAccess here limit room stop met old new microseconds given within went = come-on-the-way old new microseconds given within went
+    let on = on-the-way (step (by_view old.set)) is.end last old.state.now is.tries (omega (arith, is.within, within)) in
+    subst (λ (b : BoardValue). IsOnTheWay old b microseconds given) (sym is.board)
+    (walk-on-the-way old microseconds on.0 new.state.due given (way_at old is.end is.tries) on.1
+    (is.parts ∙ ap (λ (b : BoardValue). given ++ due_outputs b) is.board))
 
 -- ---- a call is a part of one call
 
@@ -130,23 +103,15 @@ stepped-set : (board : BoardValue) (h : Next BoardView) → (board_after_step h 
 stepped-set board (Goes now outputs kind) = refl
 stepped-set board (Ends stop) = refl
 
-come-set : (ended : Ended) (here : ℕ → Bool) (limit room : ℕ) (stop : Option Stop) (met : Option Access) (old new : BoardValue)
-    (given : List Output) → WentBy ended here limit room old given stop met new → new.set ≡ old.set
-come-set BufferFull here limit room stop met old new given went = ap (λ (b : BoardValue). b.set) went.0.board
-come-set TimeOver here limit room stop met old new given went = ap (λ (b : BoardValue). b.set) went.board
-come-set AtPlace here limit room stop met old new given went = ap (λ (b : BoardValue). b.set) went.board
-come-set AtStop here limit room stop met old new given went = ap (λ (b : BoardValue). b.set) went.board
-come-set AtAccess here limit room stop met old new given went = ap (λ (b : BoardValue). b.set) went.board
-
 gone-part : (places watched : List ℕ) (ticks rest : ℕ) (old mid : BoardValue) (samples after taken : List ℤ) (told : PacUntil)
     → HasGoneFor ticks places watched old samples mid after told → taken ≡ take told.samples after
     → old.state.now.time + ticks ≤ time_of (old.state.asked + rest) → IsPartOf old mid rest rest taken
 gone-part places watched ticks rest old mid samples after taken told done is within =
     let gone = done.gone in
     let count = ap (λ (told : PacUntil). told.samples) gone.told_is ∙ told-samples _ (sound_count gone.given) _ gone.stop in
+    let is_along = along gone.ended _ _ _ old gone.given gone.stop gone.met mid gone.went in
     part-of-way old mid rest gone.given taken (is ∙ taken-is told.samples gone.given samples after count gone.samples_are)
-    (come-set gone.ended _ _ _ gone.stop gone.met old mid gone.given gone.went)
-    (went-on-the-way gone.ended _ _ _ gone.stop gone.met old mid rest gone.given within gone.went)
+    (ap (λ (b : BoardValue). b.set) is_along.board) (along-the-way old mid rest (old.state.now.time + ticks) gone.given within is_along)
 
 -- a sink that takes all
 abbrev takes_all : Giving (Unit {0})
@@ -175,9 +140,6 @@ ran-count old microseconds samples new after ran done =
     let count = ap (λ (ran : PacRan). ran.samples) done.ran_is ∙ told-samples _ (sound_count outputs) _ _ in
     taken-is ran.samples outputs samples after count done.samples_are
 
-none-more : (last : ℕ) → last ≡ 0 + last
-none-more last = omega arith
-
 module _ (cuts : TimeCanBeCut) where
   ran-part : (microseconds rest all : ℕ) (old mid : BoardValue) (samples after taken : List ℤ) (ran : PacRan)
       → HasRunOn old microseconds samples mid after ran → taken ≡ take ran.samples after → all ≡ microseconds + rest
@@ -199,28 +161,20 @@ module _ (cuts : TimeCanBeCut) where
   parts : (calls : List TimeCall) (last : ℕ) (old new : BoardValue) (given : List ℤ) → GiveInTime calls last old given new
       → IsPartOf old new (asked_by calls + last) last given
   parts [] last old new given done =
-      subst (λ (all : ℕ). IsPartOf old new all last given) (none-more last)
-      (subst (λ (xs : List ℤ). IsPartOf old new last last xs) (sym done.1)
-      (subst (λ (b : BoardValue). IsPartOf old b last last []) (sym done.0) (record { set = refl; state = refl; given = refl })))
+      let none : last ≡ 0 + last = omega arith in
+      rw (done.0, done.1, ← none) (record { set = refl; state = refl; given = refl })
   parts (GoUntil ticks places watched ∷ calls) last old new given done =
-      let mid = done.0 in let first = done.1 in let more = done.2 in let one = done.3 in let within = done.4 in let rest = done.5 in
-      subst (λ (xs : List ℤ). IsPartOf old new (asked_by calls + last) last xs) (sym done.6)
-      (part-of-both old mid new (asked_by calls + last) (asked_by calls + last) last first more
-      (gone-part places watched ticks (asked_by calls + last) old mid one.0 one.1 first one.2 one.3 one.4 within)
-      (parts calls last mid new more rest))
+      let one = done.3 in
+      rw done.6 (part-of-both _ done.0 _ _ (asked_by calls + last) _ _ _
+      (gone-part places watched ticks _ old done.0 one.0 one.1 done.1 one.2 one.3 one.4 done.4) (parts calls last done.0 new done.2 done.5))
   parts (MakeStep ∷ calls) last old new given done =
-      let mid = done.0 in let first = done.1 in let more = done.2 in let one = done.3 in let within = done.4 in let rest = done.5 in
-      subst (λ (xs : List ℤ). IsPartOf old new (asked_by calls + last) last xs) (sym done.6)
-      (part-of-both old mid new (asked_by calls + last) (asked_by calls + last) last first more
-      (stepped-part (asked_by calls + last) old mid one.0 one.1 first one.2 one.3 one.4 within)
-      (parts calls last mid new more rest))
+      let one = done.3 in
+      rw done.6 (part-of-both _ done.0 _ _ (asked_by calls + last) _ _ _
+      (stepped-part _ old done.0 one.0 one.1 done.1 one.2 one.3 one.4 done.4) (parts calls last done.0 new done.2 done.5))
   parts (PassTime microseconds ∷ calls) last old new given done =
-      let mid = done.0 in let first = done.1 in let more = done.2 in let one = done.3 in let rest = done.5 in
-      subst (λ (xs : List ℤ). IsPartOf old new (microseconds + asked_by calls + last) last xs) (sym done.6)
-      (part-of-both old mid new (microseconds + asked_by calls + last) (asked_by calls + last) last first more
-      (ran-part microseconds (asked_by calls + last) (microseconds + asked_by calls + last) old mid one.0 one.1 first one.2 one.3 one.4
-      (omega arith))
-      (parts calls last mid new more rest))
+      let one = done.3 in
+      rw done.6 (part-of-both _ done.0 _ _ (asked_by calls + last) _ _ _
+      (ran-part microseconds _ _ old done.0 one.0 one.1 done.1 one.2 one.3 one.4 (omega arith)) (parts calls last done.0 new done.2 done.5))
 
   pub any-cuts-are-one-time : AnyCutsAreOneTime
   any-cuts-are-one-time calls last old between new once given buffer last_samples wide whole_samples ran whole done last_done whole_done =

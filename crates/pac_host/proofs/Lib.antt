@@ -5,5 +5,8 @@ pub mod LiveRun
 pub mod LiveSteps
 pub mod LiveTaken
 pub mod LiveBoards
+pub mod UntilPasses
+pub mod UntilGiven
+pub mod UntilAsked
 pub mod UntilEnds
 pub mod Cuts

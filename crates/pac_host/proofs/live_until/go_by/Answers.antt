@@ -3,7 +3,7 @@ use Rattle.std.proofs.Common.{◌≡◌, ◌≢◌, ◌∙◌, List, ℕ, Option
 use Rattle.std.proofs.lemmas.Bool.Decides.{nat_tests}
 use Rattle.pac_board.specs.Stops.{is_stop}
 use Rattle.pac_host.specs.LiveUntil.{IsGoneOn}
-use Rattle.pac_host.proofs.UntilEnds.{no-map, some-map}
+use Rattle.pac_host.proofs.UntilAsked.{no-map, some-map}
 use Rattle.pac_host.proofs.live_until.go_by.Goals as goal
 
 pub chunk-requires : goal.chunk-requires

@@ -7,7 +7,8 @@ use Rattle.pac_board.specs.SinksLaws.{by}
 use Rattle.pac_board.specs.State.{BoardState, BoardValue, due_outputs, nothing_due}
 use Rattle.pac_board.specs.Stops.{is_stop}
 use Rattle.pac_block.specs.Sounding.{sounding_took, sounding_refused}
-use Rattle.pac_host.proofs.UntilEnds.{at-once, due-elsewhere, due-there, offer-full, something_due, went-on}
+use Rattle.pac_host.proofs.UntilAsked.{due-elsewhere, due-there, something_due}
+use Rattle.pac_host.proofs.UntilEnds.{at-once, offer-full, went-on}
 use Rattle.pac_host.proofs.live_until.go_on.Goals as goal
 
 pub returns-then-is_err : goal.returns-then-is_err

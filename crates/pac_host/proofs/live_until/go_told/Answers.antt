@@ -5,7 +5,7 @@ use Rattle.pac_block.specs.Codes.{ran_of}
 use Rattle.pac_block.specs.Host.{samples_given}
 use Rattle.pac_host.specs.LiveCodes.{until_of}
 use Rattle.pac_block.proofs.Sounding.{are-written}
-use Rattle.pac_host.proofs.UntilEnds.{few-given}
+use Rattle.pac_host.proofs.UntilGiven.{few-given}
 use Rattle.pac_host.proofs.live_until.go_told.Goals as goal
 
 pub overflow_cast-sounds : goal.overflow_cast-sounds

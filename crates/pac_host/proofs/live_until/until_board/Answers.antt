@@ -1,6 +1,6 @@
 -- The call, by the set, the map and the time.
 use Rattle.std.proofs.Common.{◌+◌, ℕ, ap, ◌∙◌, arith, refl}
-use Rattle.pac_host.proofs.UntilEnds.{gone-same}
+use Rattle.pac_host.proofs.UntilAsked.{gone-same}
 use Rattle.pac_host.proofs.live_until.until_board.Goals as goal
 
 pub returns : goal.returns
