@@ -1,24 +1,21 @@
 -- A host that plays a script frame by frame hears and sees the script's trace.
-use Rattle.std.proofs.Common.{◌≡◌, ◌≤◌, ◌<◌, ℕ, ℤ, zero, suc, ◌+◌, ◌*◌, List, [], ◌∷◌, ◌++◌, rules, map, length, drop, Option, None, Some}
+use Rattle.std.proofs.Common.{◌≡◌, ◌≤◌, ℕ, ℤ, zero, suc, ◌+◌, ◌*◌, List, [], ◌∷◌, ◌++◌, rules, map, length, drop, Option, None, Some}
 use Rattle.std.proofs.Common.{Result, Ok, refl, sym, ap, subst, ◌∙◌, append_assoc, arith}
-use Rattle.std.proofs.lemmas.List.{length-drop, length-take-le}
+use Rattle.std.proofs.lemmas.List.{length-drop, length-take-le, map-append}
 use Rattle.std.specs.Int.Bits.{bit_or, and_zero_r, or_zero_l}
-use Rattle.pac_board.specs.BoardView.{BoardView, board_after, power_on_board_view}
-use Rattle.pac_board.specs.Calls.{course}
+use Rattle.pac_board.specs.BoardView.{BoardView, board_after}
 use Rattle.pac_board.specs.Entry.{Hold}
 use Rattle.pac_board.specs.MemoryView.{held_with, held_without}
-use Rattle.pac_board.specs.ModelLaws.{next_frame}
 use Rattle.pac_board.specs.Output.{Image, image_of, picture_count}
 use Rattle.pac_board.specs.RomParts.{Parts, IsWhole, program_size, tiles_size, sprites_size}
 use Rattle.pac_board.specs.RomParts.{colour_prom_size, lookup_prom_size, wave_prom_size}
 use Rattle.pac_board.specs.State.{BoardState, nothing_due}
-use Rattle.pac_board.specs.Step.{Moment, step, frame_ticks}
+use Rattle.pac_board.specs.Step.{step, frame_ticks}
 use Rattle.pac_board.specs.Stop.{Stop}
-use Rattle.pac_board.specs.Trace.{by_view, moment_with_inputs, power_on_moment, trace, frame_steps}
-use Rattle.pac_board.specs.Walk.{Walk, walk_to}
+use Rattle.pac_board.specs.Trace.{by_view, frame_steps}
+use Rattle.pac_board.specs.Walk.{Walk}
 use Rattle.pac_board_model.proofs.Agreed.{runs-agree}
-use Rattle.pac_board_model.proofs.Runs.{runs-end, runs-go-by-frames, walk-near}
-use Rattle.pac_board_model.proofs.Walks.{open-is-late, play-timely, step-timely, walk-to-ends, stopped-is-early}
+use Rattle.pac_board_model.proofs.Walks.{stopped-is-early}
 use Rattle.pac_state.specs.Reading.{bytes_at_place, state_in}
 use Rattle.pac_block.specs.declared.codes.HostFault.{HostFault}
 use Rattle.pac_block.specs.declared.ran.PacRan.{PacRan}
@@ -26,10 +23,12 @@ use Rattle.pac_block.specs.Codes.{Answers, code_of}
 use Rattle.pac_block.specs.Films.{HostsPlayTheFilm, ran_read}
 use Rattle.pac_block.specs.Films.{Player, IsHostFrame, FollowedBy, PlaysFrames, heard, seen, seen_if, pictures_given, rgba_of_image}
 use Rattle.pac_block.specs.Host.{roms_size, set_of_roms, asked_left, board_holding, board_after_exec, samples_given, HasBecome, TellsRun}
-use Rattle.pac_block.proofs.FrameWalks.{pictures-joined, as-many-pictures, walk-shows}
+use Rattle.pac_block.proofs.FrameWalks.{pictures-joined, as-many-pictures}
 use Rattle.pac_block.proofs.Sounding.{samples-append}
 use Rattle.pac_block.proofs.Told.{ran-is-read}
 use Rattle.pac_block.proofs.TimeParts.{Tells, tells, kept, told_stop}
+use Rattle.pac_block.proofs.FilmRuns.{IsBetween, after_frame, course-is, first-between, next-between, played, played-late, played-near}
+use Rattle.pac_block.proofs.FilmRuns.{ready, run, run-goes, run-outputs, run-stays, shows, with_held}
 
 -- ---- a call that answers 0 was done
 
@@ -39,114 +38,6 @@ done-of comes_to answer code done_is = search rules
 
 pub was-done : (comes_to : Result (Unit {0}) HostFault → Type 0) → Answers comes_to 0 → comes_to (Ok tt)
 was-done comes_to answers = done-of comes_to answers.answer answers.code_is answers.done
-
--- ---- the run, frame by frame
-
-module _ (set : Parts) (switches : ℕ) (held : ℕ → ℕ) where
-  abbrev run : ℕ → Walk BoardView
-  run frames = trace (by_view set) (record { frames = frames; held = held }) (power_on_board_view switches)
-
-  -- a frame's walk
-  abbrev played : ℕ → Walk BoardView
-  played frames = walk_to (step (by_view set)) (frame_ticks * suc frames) (run frames).now
-
-  run-on : (frames : ℕ) → run (suc frames) ≡ next_frame (by_view set) held (suc frames) (run frames) (run frames).stop
-  run-on frames =
-      sym (runs-go-by-frames (by_view set) held (power_on_board_view switches) (suc frames))
-      ∙ ap (λ before. next_frame (by_view set) held (suc frames) before before.stop)
-      (runs-go-by-frames (by_view set) held (power_on_board_view switches) frames)
-
-  -- after a frame that met no stop, and one that did
-  run-open : (frames : ℕ) → (run frames).stop ≡ None → (played frames).stop ≡ None
-      → run (suc frames) ≡ record {
-        now = moment_with_inputs (by_view set) held (played frames).now;
-        outputs = (run frames).outputs ++ (played frames).outputs;
-        stop = None;
-      }
-  run-open frames open_yet goes = run-on frames ∙ rw (open_yet, goes) refl
-
-  run-closed : (frames : ℕ) (stop : Stop) → (run frames).stop ≡ None → (played frames).stop ≡ Some stop
-      → run (suc frames) ≡ record {
-        now = (played frames).now;
-        outputs = (run frames).outputs ++ (played frames).outputs;
-        stop = Some stop;
-      }
-  run-closed frames stop open_yet ends = run-on frames ∙ rw (open_yet, ends) refl
-
-  -- a stop is for good
-  run-stays : (frames more : ℕ) (stop : Stop) → (run frames).stop ≡ Some stop → run (frames + more) ≡ run frames
-  run-stays frames zero stop ends = let same : frames + 0 ≡ frames = omega arith in ap run same
-  run-stays frames (suc more) stop ends =
-      let same : frames + suc more ≡ suc (frames + more) = omega arith in
-      let before = run-stays frames more stop ends in
-      let stopped : (run (frames + more)).stop ≡ Some stop = ap (λ (w : Walk BoardView). w.stop) before ∙ ends in
-      ap run same ∙ run-on (frames + more) ∙ ap (next_frame (by_view set) held (suc (frames + more)) (run (frames + more))) stopped ∙ before
-
-  -- where a frame begins, and where it ends
-  run-late : (frames : ℕ) → (run frames).stop ≡ None → frame_ticks * frames ≤ (run frames).now.time
-  run-late frames open_yet =
-      open-is-late (frame_ticks * frames) (run frames)
-      (runs-end (by_view set) (record { frames = frames; held = held }) (power_on_board_view switches) 0).0 open_yet
-
-  run-near : (frames : ℕ) → (run frames).now.time < frame_ticks * frames + 23
-  run-near frames = walk-near _ _ (play-timely (by_view set) held) _ (frame_steps * frames) (omega arith)
-
-  played-late : (frames : ℕ) → (played frames).stop ≡ None → frame_ticks * suc frames ≤ (played frames).now.time
-  played-late frames goes =
-      open-is-late (frame_ticks * suc frames) (played frames)
-      (walk-to-ends (step (by_view set)) (frame_ticks * suc frames) (step-timely (by_view set)) (run frames).now) goes
-
-  played-near : (frames : ℕ) → (played frames).now.time < frame_ticks * suc frames + 23
-  played-near frames =
-      walk-near (step (by_view set)) (frame_ticks * suc frames) (step-timely (by_view set)) (run frames).now (frame_ticks * suc frames)
-      (omega (arith, run-near frames))
-
-  -- the pictures of a frame
-  picture-shown : (frames : ℕ) → (run frames).stop ≡ None → (played frames).stop ≡ None
-      → pictures_given (played frames).outputs ≡ image_of set (played frames).now.board.lines ∷ []
-  picture-shown frames open_yet goes =
-      let late = run-late frames open_yet in
-      let near = run-near frames in
-      let shows = walk-shows set frames (run frames).now (frame_ticks * suc frames) late (omega (arith, near)) in
-      shows.late (played-late frames goes) (played-near frames)
-
-  none-shown : (frames : ℕ) (stop : Stop) → (run frames).stop ≡ None → (played frames).stop ≡ Some stop
-      → pictures_given (played frames).outputs ≡ []
-  none-shown frames stop open_yet ends =
-      let late = run-late frames open_yet in
-      let near = run-near frames in
-      let shows = walk-shows set frames (run frames).now (frame_ticks * suc frames) late (omega (arith, near)) in
-      shows.early (stopped-is-early (step (by_view set)) (frame_ticks * suc frames) (run frames).now (frame_ticks * suc frames) stop ends)
-
-  -- ---- a board between two frames
-
-  abbrev with_held : ℕ → Moment BoardView → Moment BoardView
-  with_held frame now = record now { board = board_after set now.board (Hold (held frame)) }
-
-  -- once the next frame's inputs are held, it stands where the run does
-  record IsBetween (frames : ℕ) (state : BoardState) : Type 0 where
-    open_yet : (run frames).stop ≡ None
-    now : with_held (suc frames) state.now ≡ (run frames).now
-    asked : state.asked ≡ 16500 * frames
-    due : state.due ≡ nothing_due
-
-  -- the state with them held, and after the frame
-  abbrev ready : ℕ → BoardState
-  ready frames = record { now = (run frames).now; asked = 16500 * frames; due = nothing_due }
-
-  abbrev after_frame : ℕ → BoardState
-  after_frame frames = record { now = (played frames).now; asked = 16500 * frames + 16500; due = nothing_due }
-
-  next-between : (frames : ℕ) → (run frames).stop ≡ None → (played frames).stop ≡ None → IsBetween (suc frames) (after_frame frames)
-  next-between frames open_yet goes = grind (arith, played-late, played-near, run-open)
-
-  -- the first frame's state
-  first-between : IsBetween 0 (record { now = power_on_moment (power_on_board_view switches); asked = 0; due = nothing_due })
-  first-between = record { open_yet = refl; now = refl; asked = refl; due = refl }
-
-  -- a call for a frame is the frame's walk
-  course-is : (frames : ℕ) → course (record { set = set; state = ready frames; made = 0 }) 16500 ≡ played frames
-  course-is frames = search rules
 
 -- ---- one frame of a host
 
@@ -165,24 +56,17 @@ module _ (roms : List ℕ) (switches : ℕ) (held : ℕ → ℕ) where
 
   -- a board after the inputs of a frame are held
   held-state : (frame : ℕ) (block between : List ℕ) → HasBecome (board_holding (held frame) 0xFFFF) block between
-      → state_in between ≡ record {
-        now = with_held set switches held frame (state_in block).now;
-        asked = (state_in block).asked;
-        due = (state_in block).due;
-      }
+      → state_in between ≡ record (state_in block) { now = with_held set switches held frame (state_in block).now }
   held-state frame block between done =
+      let old = state_in block in
       (done.board roms).state_is
-      ∙ ap (λ mask. record {
-        now = record (state_in block).now { board = board_after set (state_in block).now.board (Hold mask) };
-        asked = (state_in block).asked;
-        due = (state_in block).due;
-      }) (mask-is (state_in block).now.board.memory.held (held frame))
+      ∙ ap (λ mask. record old { now = record old.now { board = board_after set old.now.board (Hold mask) } })
+      (mask-is old.now.board.memory.held (held frame))
 
   -- the state after a frame that met this stop, or none
-  abbrev left_after : ℕ → Option Stop → BoardState
-  left_after frames stop =
-      let now = (played set switches held frames).now in
-      record { now = now; asked = asked_left stop (16500 * frames + 16500) now.time; due = nothing_due }
+  abbrev left_after : ℕ → Walk BoardView → Option Stop → BoardState
+  left_after frames walked stop =
+      record { now = walked.now; asked = asked_left stop (16500 * frames + 16500) walked.now.time; due = nothing_due }
 
   -- what a frame's calls leave of a board that stands between two frames
   record IsFrameOf (frames : ℕ) (new : Player) : Type 0 where
@@ -210,13 +94,8 @@ module _ (roms : List ℕ) (switches : ℕ) (held : ℕ → ℕ) where
         state_is = executes.board.state_is;
       }) in
       let same = course-is set switches held frames in
-      let after : state_in new.block ≡ left_after frames (played set switches held frames).stop =
-      called.state_is
-      ∙ ap (λ (walked : Walk BoardView). record {
-        now = walked.now;
-        asked = asked_left walked.stop (16500 * frames + 16500) walked.now.time;
-        due = nothing_due;
-      }) same in
+      let after : state_in new.block ≡ left_after frames (played set switches held frames) (played set switches held frames).stop =
+      called.state_is ∙ ap (λ (walked : Walk BoardView). left_after frames walked walked.stop) same in
       record {
         sound = cc (told_is, read.samples, called.told.taken, same);
         pictures = cc (told_is, read.pictures, called.told.pictures, same);
@@ -224,7 +103,7 @@ module _ (roms : List ℕ) (switches : ℕ) (held : ℕ → ℕ) where
             ap (λ told. (ran_read told).stop) told_is ∙ read.stop
             ∙ ap (λ (ran : PacRan). ran.stop) called.told.stop
             ∙ ap (λ (walked : Walk BoardView). (told_stop walked.stop).stop) same;
-        state_is = λ goes. after ∙ ap (left_after frames) goes;
+        state_is = λ goes. after ∙ ap (left_after frames (played set switches held frames)) goes;
         drawn = cc (draws.drawn, after);
       }
 
@@ -232,28 +111,23 @@ module _ (roms : List ℕ) (switches : ℕ) (held : ℕ → ℕ) where
   abbrev drawn_of : List Image → List (List ℕ)
   drawn_of images = map rgba_of_image images
 
-  seen-open : (frames : ℕ) (new : Player) → IsFrameOf frames new → (run set switches held frames).stop ≡ None
-      → (played set switches held frames).stop ≡ None
-      → seen new ≡ drawn_of (pictures_given (played set switches held frames).outputs)
-  seen-open frames new is open_yet goes =
+  seen-frame : (frames : ℕ) (new : Player) (stop : Option Stop) → IsFrameOf frames new → (run set switches held frames).stop ≡ None
+      → (played set switches held frames).stop ≡ stop → seen new ≡ drawn_of (pictures_given (played set switches held frames).outputs)
+  seen-frame frames new None is open_yet goes =
       let walked = played set switches held frames in
-      let shown = picture-shown set switches held frames open_yet goes in
+      let shown : pictures_given walked.outputs ≡ image_of set walked.now.board.lines ∷ [] =
+      (shows set switches held frames open_yet).late (played-late set switches held frames goes) (played-near set switches held frames) in
       let count : picture_count walked.outputs ≡ 1 = sym (as-many-pictures walked.outputs) ∙ ap length shown in search rules
-
-  seen-closed : (frames : ℕ) (stop : Stop) (new : Player) → IsFrameOf frames new → (run set switches held frames).stop ≡ None
-      → (played set switches held frames).stop ≡ Some stop
-      → seen new ≡ drawn_of (pictures_given (played set switches held frames).outputs)
-  seen-closed frames stop new is open_yet ends =
+  seen-frame frames new (Some stop) is open_yet ends =
       let walked = played set switches held frames in
-      let shown = none-shown set switches held frames stop open_yet ends in
+      let limit = frame_ticks * suc frames in
+      let shown : pictures_given walked.outputs ≡ [] =
+      (shows set switches held frames open_yet).early
+      (stopped-is-early (step (by_view set)) limit (run set switches held frames).now limit stop ends) in
       let count : picture_count walked.outputs ≡ 0 = sym (as-many-pictures walked.outputs) ∙ ap length shown in
       ap (λ n. seen_if n new.rgba) (is.pictures ∙ count) ∙ ap drawn_of (sym shown)
 
   -- ---- all frames from one on
-
-  map-joined : (one other : List Image) → drawn_of (one ++ other) ≡ drawn_of one ++ drawn_of other
-  map-joined [] other = refl
-  map-joined (image ∷ one) other = ap (λ more. rgba_of_image image ∷ more) (map-joined one other)
 
   -- all that a host heard and saw up to a frame, and after it, is the run's
   record IsRun (frames last : ℕ) (sound : List ℤ) (pictures : List (List ℕ)) : Type 0 where
@@ -276,18 +150,15 @@ module _ (roms : List ℕ) (switches : ℕ) (held : ℕ → ℕ) where
   frame-first frames last new more others is whole pictures rest =
       let before = (run set switches held frames).outputs in
       let now = (played set switches held frames).outputs in
+      let one = pictures_given before in
+      let two = pictures_given now in
       record {
         sound_is =
-            ap (λ sound. samples_given before ++ (sound ++ more)) is.sound
-            ∙ sym (append_assoc (samples_given before) (samples_given now) more)
-            ∙ ap (λ sound. sound ++ more) (sym (samples-append before now) ∙ ap samples_given (sym whole))
-            ∙ rest.sound_is;
+            cc (is.sound, append_assoc (samples_given before) (samples_given now) more, samples-append before now, whole, rest.sound_is);
         pictures_are =
-            ap (λ drawn. drawn_of (pictures_given before) ++ (drawn ++ others)) pictures
-            ∙ sym (append_assoc (drawn_of (pictures_given before)) (drawn_of (pictures_given now)) others)
-            ∙ ap (λ drawn. drawn ++ others)
-            (grind (arith, map-joined, pictures-joined))
-            ∙ rest.pictures_are;
+            let parts = append_assoc (drawn_of one) (drawn_of two) others in
+            let both = map-append rgba_of_image one two in
+            cc (pictures, parts, both, pictures-joined before now, whole, rest.pictures_are);
       }
 
   follows : (stop : Option Stop) (others : List ℤ → List (List ℕ) → Type 0) (told : ℕ) (sound : List ℤ) (pictures : List (List ℕ))
@@ -306,39 +177,33 @@ module _ (roms : List ℕ) (switches : ℕ) (held : ℕ → ℕ) where
       let same : frames + 0 ≡ frames = omega arith in
       nothing-more frames (frames + 0) sound pictures (ap (run set switches held) same) none
   frames-are-run (suc left) frames old sound pictures stands plays =
+      let is = frame-of _ _ _ stands plays.frame in
+      let stop = (played set switches held frames).stop in
       subst (λ sound. IsRun frames (frames + suc left) sound pictures) (sym plays.sound_is)
       (subst (λ pictures. IsRun frames (frames + suc left) (heard plays.new ++ plays.more) pictures) (sym plays.pictures_are)
-      (choose (λ next after. frames-are-run left (suc frames) plays.new plays.more plays.others_seen next after)
-      (played set switches held frames).stop refl))
+      (frame-first _ _ _ _ _ is (run-outputs set switches held frames stop stands.open_yet refl)
+      (seen-frame frames plays.new stop is stands.open_yet refl)
+      (choose (λ next after. frames-are-run left (suc frames) plays.new plays.more plays.others_seen next after) is stop refl
+      (follows stop _ _ _ _ is.stop plays.after))))
     where
       choose : (IsBetween set switches held (suc frames) (state_in plays.new.block)
           → PlaysFrames roms held (suc (suc frames)) left plays.new plays.more plays.others_seen
           → IsRun (suc frames) (suc frames + left) plays.more plays.others_seen)
-          → (stop : Option Stop) → (played set switches held frames).stop ≡ stop
-          → IsRun frames (frames + suc left) (heard plays.new ++ plays.more) (seen plays.new ++ plays.others_seen)
-      choose on None goes = let is = frame-of _ _ _ stands plays.frame in
-          let whole = run-open set switches held frames stands.open_yet goes in
-          let told : (ran_read plays.new.told).stop ≡ 0 = is.stop ∙ ap (λ stop. (told_stop stop).stop) goes in
+          → IsFrameOf frames plays.new → (stop : Option Stop) → (played set switches held frames).stop ≡ stop
+          → FollowedBy (told_stop stop).stop (λ sound pictures. PlaysFrames roms held (suc (suc frames)) left plays.new sound pictures)
+          plays.more plays.others_seen → IsRun (suc frames) (frames + suc left) plays.more plays.others_seen
+      choose on is None goes after =
+          let number : suc frames + left ≡ frames + suc left = omega arith in
           let next = subst (IsBetween set switches held (suc frames)) (sym (is.state_is goes))
           (next-between set switches held frames stands.open_yet goes) in
+          subst (λ last. IsRun (suc frames) last plays.more plays.others_seen) number (on next after)
+      choose on is (Some stop) ends after =
           let number : suc frames + left ≡ frames + suc left = omega arith in
-          let rest = on next
-          (subst (λ told. FollowedBy told (λ sound pictures. PlaysFrames roms held (suc (suc frames)) left plays.new sound pictures)
-          plays.more plays.others_seen) told plays.after) in
-          frame-first _ _ _ _ _ is (ap (λ (w : Walk BoardView). w.outputs) whole) (seen-open frames plays.new is stands.open_yet goes)
-          (subst (λ last. IsRun (suc frames) last plays.more plays.others_seen) number rest)
-      choose on (Some stop) ends = let is = frame-of _ _ _ stands plays.frame in
-          let whole = run-closed set switches held frames stop stands.open_yet ends in
-          let told : (ran_read plays.new.told).stop ≡ (told_stop (Some stop)).stop = is.stop ∙ ap (λ stop. (told_stop stop).stop) ends in
-          let none = stopped-alone stop _ plays.more plays.others_seen
-          (subst (λ told. FollowedBy told (λ sound pictures. PlaysFrames roms held (suc (suc frames)) left plays.new sound pictures)
-          plays.more plays.others_seen) told plays.after) in
-          let number : suc frames + left ≡ frames + suc left = omega arith in
+          let met = ap (λ (w : Walk BoardView). w.stop) (run-goes set switches held frames (Some stop) stands.open_yet ends) in
           let stays : run set switches held (frames + suc left) ≡ run set switches held (suc frames) =
-          cc (number, run-stays set switches held (suc frames) left stop (ap (λ (w : Walk BoardView). w.stop) whole)) in
-          frame-first _ _ _ _ _ is (ap (λ (w : Walk BoardView). w.outputs) whole)
-          (seen-closed frames stop plays.new is stands.open_yet ends)
-          (nothing-more (suc frames) (frames + suc left) plays.more plays.others_seen stays none)
+          cc (number, run-stays set switches held (suc frames) left stop met) in
+          nothing-more (suc frames) (frames + suc left) plays.more plays.others_seen stays
+          (stopped-alone stop _ plays.more plays.others_seen after)
 
 -- ---- from power-on
 

@@ -2,6 +2,7 @@ pub mod Executed
 pub mod Filling
 pub mod FrameWalks
 pub mod Told
+pub mod FilmRuns
 pub mod Films
 pub mod FramesDone
 pub mod OneBoard
