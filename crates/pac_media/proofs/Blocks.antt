@@ -190,12 +190,10 @@ part-more f numbers image new start pixels count stop appended is coloured drawn
     let next : 16 * (count + 1) ≡ 16 * count + 16 = omega arith in
     let before = take (16 * count) numbers in
     let block = take 16 (drop (16 * count) numbers) in
-    appended
-    ∙ (ap (λ all. all ++ pixels) drawn
-    ∙ (ap (λ (last : List ℕ). (start ++ flat_map f before) ++ last) (coloured ∙ ap (λ n. flat_map f (take n (drop (16 * count) numbers))) is)
-    ∙ (append_assoc start (flat_map f before) (flat_map f block)
-    ∙ ap (λ all. start ++ all)
-    (sym (flat_map-append f before block) ∙ ap (flat_map f) (sym (ap (λ n. take n numbers) next ∙ take-more (16 * count) 16 numbers))))))
+    let apart = append_assoc start (flat_map f before) (flat_map f block) in
+    let both = flat_map-append f before block in
+    let more = take-more (16 * count) 16 numbers in
+    cc (appended, is, coloured, drawn, next, apart, both, more)
 
 -- one line more is kept
 pub lines-step : (kept new lines : List (List ℕ)) (numbers : List ℕ) (y : ℕ) → length kept ≡ 224 → y < 224 → new ≡ set kept y numbers →

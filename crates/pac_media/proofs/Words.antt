@@ -1,6 +1,5 @@
 -- 32 colour numbers that are compared as words of eight.
-use Rattle.std.proofs.Common.{◌≡◌, ℕ, ◌+◌, ◌<◌, ◌≤◌, max, List, ◌++◌, rules, take, drop}
-use Rattle.std.proofs.Common.{refl, sym, ap, ◌∙◌, arith, ◌↔◌, ◌^◌, IsTrue, eqb}
+use Rattle.std.proofs.Common.{◌≡◌, ℕ, ◌+◌, ◌<◌, ◌≤◌, max, List, ◌++◌, rules, take, drop, refl, sym, ap, ◌∙◌, arith, ◌↔◌, ◌^◌, IsTrue, eqb}
 use Rattle.std.proofs.lemmas.Bool.{eqb-true}
 use Rattle.std.proofs.lemmas.List.{take-take, drop-take, drop-drop, take-append-drop}
 use Rattle.std.proofs.lemmas.Nat.Bits.{bit_at_or, bit_at_xor, bit_at-zero, bit_at-lt, same_from_bits}
@@ -81,8 +80,12 @@ four-same one other start a b c d p q r s is_a is_p is_b is_q is_c is_r is_d is_
           let part : (before rest : ℕ) → before + rest ≡ 32 → 8 ≤ rest
           → take 8 (drop (start + before) one) ≡ take 8 (drop (start + before) other) =
           λ before rest sum within. cc (part-of start before rest one sum within, same, part-of start before rest other sum within) in
-          let first : take 8 (drop start one) ≡ take 8 (drop start other) = cc (part 0 32 refl (omega arith), drop-drop 0 start one,
-          drop-drop 0 start other) in
-          rw (none a p _ _ first is_a is_p, none b q _ _ (part 8 24 refl (omega arith)) is_b is_q,
-          none c r _ _ (part 16 16 refl (omega arith)) is_c is_r, none d s _ _ (part 24 8 refl (omega arith)) is_d is_s) refl,
+          let begins = part 0 32 refl (omega arith) in
+          let first : take 8 (drop start one) ≡ take 8 (drop start other) = cc (begins, drop-drop 0 start one, drop-drop 0 start other) in
+          rw (
+            none a p _ _ first is_a is_p,
+            none b q _ _ (part 8 24 refl (omega arith)) is_b is_q,
+            none c r _ _ (part 16 16 refl (omega arith)) is_c is_r,
+            none d s _ _ (part 24 8 refl (omega arith)) is_d is_s,
+          ) refl,
     )
