@@ -18,11 +18,14 @@
 #include <sys/mman.h>
 #include <unistd.h>
 
+#ifndef CALLS
+#define CALLS 1300 /* of a list, at least: the gate makes fewer where each takes many times as long */
+#endif
+
 enum {
     THREADS = 4,
     LISTS = 5,      /* of a thread */
-    CALLS = 1300,   /* of a list, at least */
-    LEAST = 5,      /* answers of a kind */
+    LEAST = 5 * CALLS / 1300, /* answers of a kind */
     STEPPED = 200,  /* frames, the last of which is done by single steps */
     PROGRAM = 16384,
     FRAME = PAC_FRAME_MICROSECONDS,
@@ -32,8 +35,8 @@ enum {
     UNTOUCHED = 0x55,
     STEP_CALLS = 8, /* calls of a microsecond, in which a step of a block comes */
     PLACES = 65536, /* bytes of a set */
-    STOPS = 19000,  /* at addresses of a set, at least */
-    ACCESSES = 100, /* to watched addresses, of each kind, at least */
+    STOPS = 19000 * CALLS / 1300, /* at addresses of a set, at least */
+    ACCESSES = 100 * CALLS / 1300, /* to watched addresses, of each kind, at least */
     CUTS = 60,      /* frames whose time is cut, of a list */
 };
 
