@@ -1,12 +1,12 @@
 //! The calls that make steps, and offer what they give to a sink.
 
-ghost use Rattle.std.specs.Prelude.{◌≡◌, ◌<◌, ◌≤◌, ◌+◌, ◌^◌, [], None, is_some, take};
+ghost use Rattle.std.specs.Prelude.{◌≡◌, ◌<◌, ◌≤◌, ◌+◌, ◌-◌, ◌^◌, [], None, is_some, take};
 ghost use Rattle.pac_machine.specs.Standing.{latest, nothing_due};
 ghost use Rattle.pac_board.specs.State.{due_outputs};
 ghost use Rattle.pac_board.specs.Calls.{with_due};
-ghost use Rattle.pac_board.specs.CallsLaws.{Offers, IsAdvanced, Advances, StepsOnce, Executes};
+ghost use Rattle.pac_board.specs.CallsLaws.{Offers, IsAdvanced, Advances, StepsOnce, StepsOn, Executes, once_of_board, stop_of_once};
 ghost use Rattle.pac_board.specs.SinksLaws.{by};
-ghost use Rattle.pac_board.specs.TurnsProofs.{Turns};
+ghost use Rattle.pac_board.specs.TurnsProofs.{Turns, IsShort, told_once};
 ghost use Rattle.pac_board.specs.Turns.{GoesTo};
 ghost use Rattle.pac_board.specs.Roads.{GoesUntil};
 ghost use Rattle.pac_board.specs.RoadsProofs.{BoardPasses, BoardWatched};
@@ -17,7 +17,7 @@ use crate::board::Board;
 use crate::fault::{Fault, Idle};
 use crate::offer::offer;
 use crate::sink::{Refused, Sink};
-use pac_cpu::{Once, Stop};
+use pac_cpu::{Once, StepKind, Stop};
 use pac_machine::{Due, MOST_ASKED, SAMPLE_TICKS, Stops, Trail, Unwatched, Watch};
 use std::mem::forget;
 
@@ -53,40 +53,51 @@ impl Board {
         if self.machine.time() >= LATEST {
             return Err(Idle::TimeIsOver);
         }
-        Ok(self.do_step())
+        let kind = self.machine.kind();
+        let begun = self.time();
+        let met = self.do_step();
+        Ok(self.once_told(kind, begun, met))
     }
 
-    /// Does the step of a board with nothing due and time left; what it gives is due then. It is a stretch that ends after its first
-    /// step, so that one loop makes all steps of a program: with two of them the processor is called and not inlined.
+    /// What a step that began at a time came to, by its kind where it wasn't a stop.
     #[inline(always)]
-    fn do_step(&mut self) -> Once
-        requires early { self.old.state.now.time < latest }
-        requires nothing { due_outputs self.old ≡ [] }
-        ensures { IsAdvanced self.old result self.new }
+    fn once_told(&self, kind: StepKind, begun: u64, met: Option<Stop>) -> Once
+        requires { IsShort begun self.now.state.now.time }
+        ensures { result ≡ told_once met (self.now.state.now.time - begun) kind }
     {
-        let kind = self.machine.kind();
-        let before = self.time();
-        let mut met = None;
-        self.go_on(&mut met);
         match met {
             Some(stop) => Once::Stopped(stop),
             None => Once::Stepped {
-                ticks: (self.time() - before) as u8,
+                ticks: (self.time() - begun) as u8,
                 kind,
             },
         }
     }
 
+    /// Does the step of a board with nothing due and time left; what it gives is due then. Answers the stop, if one came: whoever asks for
+    /// a step's kind finds it before.
+    #[inline(always)]
+    fn do_step(&mut self) -> Option<Stop>
+        requires early { self.old.state.now.time < latest }
+        requires nothing { due_outputs self.old ≡ [] }
+        ensures done { IsAdvanced self.old (once_of_board self.old) self.new }
+        ensures stop { result ≡ stop_of_once (once_of_board self.old) }
+    {
+        let mut met = None;
+        self.go_on(&mut met);
+        met
+    }
+
     /// Does one step of a board with nothing due, and offers what it gives.
     #[inline(always)]
-    fn turn<S: Sink>(&mut self, sink: &mut S) -> Result<Once, Refused>
+    fn turn<S: Sink>(&mut self, sink: &mut S) -> Result<Option<Stop>, Refused>
         requires early { self.old.state.now.time < latest }
         requires nothing { due_outputs self.old ≡ [] }
         ensures { Turns (by S.took S.refused) self.old sink.old result self.new sink.new }
     {
-        let once = self.do_step();
+        let met = self.do_step();
         self.offer(sink)?;
-        Ok(once)
+        Ok(met)
     }
 
     /// Offers what steps gave, of a board with nothing due. It becomes due where it's refused alone, for it's taken nearly always.
@@ -107,6 +118,19 @@ impl Board {
     pub fn step_once<S: Sink>(&mut self, sink: &mut S) -> Result<Once, Fault>
         ensures { StepsOnce (by S.took S.refused) self.old sink.old result self.new sink.new }
     {
+        let kind = self.machine.kind();
+        let begun = self.time();
+        match self.step_on(sink) {
+            Ok(met) => Ok(self.once_told(kind, begun, met)),
+            Err(fault) => Err(fault),
+        }
+    }
+
+    /// Does what `step_once` does, for a caller that asks for a stop alone.
+    #[inline(always)]
+    pub fn step_on<S: Sink>(&mut self, sink: &mut S) -> Result<Option<Stop>, Fault>
+        ensures { StepsOn (by S.took S.refused) self.old sink.old result self.new sink.new }
+    {
         if self.time() >= LATEST {
             return Err(Fault::TooFar);
         }
@@ -114,7 +138,7 @@ impl Board {
             return Err(Fault::Refused);
         }
         match self.turn(sink) {
-            Ok(once) => Ok(once),
+            Ok(met) => Ok(met),
             Err(_) => Err(Fault::Refused),
         }
     }
@@ -171,21 +195,10 @@ impl Board {
         requires early { self.old.state.now.time < latest }
         requires nothing { due_outputs self.old ≡ [] }
         requires none { met.old ≡ None }
-        ensures { IsStretched self.old (self.old.state.now.time + 1) met.new self.new }
+        ensures made { IsStretched self.old (self.old.state.now.time + 1) met.new self.new }
+        ensures bound { self.old.made < 2 ^ 64 }
     {
-        let near = self.time() + 1;
-        let mut samples = [0; 5];
-        let mut nobody = Trail::silent();
-        let (_, _, due) = self.make_stretch(
-            near,
-            &mut samples,
-            &Stops::none(),
-            &mut nobody,
-            &mut Unwatched,
-            met,
-        );
-        forget(nobody);
-        self.due = due;
+        self.due = self.machine.make_step(met);
     }
 
     /// Does steps, and offers what they give: the samples of those before the last at once, where the sink has room for a line's.
@@ -264,21 +277,14 @@ impl Board {
     /// Does steps up to a limit or to a stop, where nothing is watched, and none is told. The silent trail is forgotten and not dropped, for
     /// one that tells would give memory back, and what calls for that can't be linked where a host has no heap.
     #[inline(always)]
-    fn run_untold<S: Sink, W: Watch>(
-        &mut self,
-        limit: u64,
-        watch: &mut W,
-        sink: &mut S,
-    ) -> Result<Option<Stop>, Refused>
+    fn run_untold<S: Sink>(&mut self, limit: u64, sink: &mut S) -> Result<Option<Stop>, Refused>
         requires limit { limit ≤ latest }
         requires nothing { due_outputs self.old ≡ [] }
         requires made { self.old.made < 2 ^ 64 }
-        requires unwatched { W.marks watch.old ≡ None }
-        requires unmet { W.met watch.old ≡ None }
         ensures { GoesTo (by S.took S.refused) self.old limit sink.old result self.new sink.new }
     {
         let mut nobody = Trail::silent();
-        let ran = self.run(limit, &Stops::none(), &mut nobody, watch, sink);
+        let ran = self.run(limit, &Stops::none(), &mut nobody, &mut Unwatched, sink);
         forget(nobody);
         ran
     }
@@ -291,7 +297,7 @@ impl Board {
     {
         // (its bound, that of a u64, is what `run` asks of the count)
         self.made();
-        self.run_untold(limit, &mut Unwatched, sink)
+        self.run_untold(limit, sink)
     }
 
     /// Does steps while the time is before a limit, up to a stop, or before one that begins where it is to stop, unless it is the first, or up
@@ -330,7 +336,7 @@ impl Board {
         if self.offer(sink).is_err() {
             return Err(Fault::Refused);
         }
-        match self.run_untold(384 * asked / 125, &mut Unwatched, sink) {
+        match self.run_untold(384 * asked / 125, sink) {
             Ok(stop) => Ok(Ran {
                 ticks: self.time() - begun,
                 stop,

@@ -9,7 +9,7 @@ ghost use Rattle.pac_cpu.specs.StepProofs.{DoesCpuStep, IfStepped, IfStopped};
 
 use crate::once::Once;
 use crate::power::blank;
-use crate::step::{advance, advance_apart};
+use crate::step::{Way, advance};
 use pac_bus::Bus;
 use pac_exec::Regs;
 use pac_table::InterruptMode;
@@ -86,7 +86,7 @@ impl Cpu {
         ensures again { IfStopped result (λ stop.
             cpu_step (surroundings_of B.byte_at B.input_at B.after bus.new) self.new request ≡ Stops stop) }
     {
-        advance(&mut self.regs, bus, request)
+        advance(Way::ByRows, &mut self.regs, bus, request)
     }
 
     /// Does one step, as `step`, in a third of its code: each instruction is a call.
@@ -96,6 +96,6 @@ impl Cpu {
             self.old bus.old self.new bus.new result }
         ensures time { IfStepped result (λ ticks kind. (least_ticks ≤ ticks) × (ticks ≤ most_ticks)) }
     {
-        advance_apart(&mut self.regs, bus, request)
+        advance(Way::Apart, &mut self.regs, bus, request)
     }
 }

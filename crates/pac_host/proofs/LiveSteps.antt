@@ -1,5 +1,6 @@
 -- One step of a board: how many samples and pictures it gives, and that none is refused where there is room for two.
-use Rattle.std.proofs.Common.{◌≡◌, ◌≤◌, ◌<◌, ℕ, suc, zero, ◌+◌, length, Option, None, Some, ℤ, Err, refl, sym, ap, ◌∙◌, arith, ◌⊎◌, inl, inr}
+use Rattle.std.proofs.Common.{◌≡◌, ◌≤◌, ◌<◌, ℕ, suc, zero, ◌+◌, length, Option, None, Some, ℤ, Err, ◌⊎◌, inl, inr}
+use Rattle.std.proofs.Common.{refl, sym, ap, ◌∙◌, arith}
 use Rattle.pac_board_model.specs.BoardView.{BoardView}
 use Rattle.pac_board_model.specs.Output.{image_of, sound_count, picture_count}
 use Rattle.pac_board_model.specs.Step.{Moment, Next, Goes, Ends, step}
@@ -7,7 +8,7 @@ use Rattle.pac_board_model.specs.Trace.{by_view}
 use Rattle.pac_board_model.specs.Walk.{walk, walk_at_start, walk_after_step}
 use Rattle.pac_board_model.proofs.Walks.{going-steps, open-goes-on}
 use Rattle.pac_board_model.proofs.WalkTimes.{walks-are-timed}
-use Rattle.pac_board.specs.CallsLaws.{StepsOnce, IsOfferRefused, IsStepRefused, once_at}
+use Rattle.pac_board.specs.CallsLaws.{StepsOn, IsOfferRefused, IsStepRefused, once_at, stop_of_once}
 use Rattle.pac_board.specs.Calls.{next_of, outputs_in}
 use Rattle.pac_board.specs.declared.fault.Fault.{Fault}
 use Rattle.pac_board.specs.declared.fault.Fault.TheVariants.{TooFar, Refused}
@@ -15,7 +16,6 @@ use Rattle.pac_board.specs.SinksLaws.{by}
 use Rattle.pac_board.specs.State.{BoardValue, due_outputs, latest}
 use Rattle.pac_block.specs.Host.{samples_due}
 use Rattle.pac_host.specs.LiveStep.{outputs_of_one, stop_of_next}
-use Rattle.pac_host.specs.LiveSteps.{stop_of_once}
 use Rattle.pac_block.specs.Sounding.{sounding_took, sounding_refused}
 use Rattle.pac_block.specs.declared.sounds.Sounds.{Sounds}
 use Rattle.pac_block.proofs.Sounding.{due-pictures, due-sounds, none-refused, pictures-append, sounds-append}
@@ -66,7 +66,7 @@ module _ (board : BoardValue) where
 -- where there is time, and room for two samples, a step is done
 pub step-done : {A : Type 0} (fault : Fault) (board : BoardValue) (sink : Sounds) (new : BoardValue) (later : Sounds)
     → sink.taken ≡ 0 → sink.pictures ≡ 0 → board.state.now.time < latest → 2 ≤ length sink.samples.now
-    → StepsOnce (by sounding_took sounding_refused) board sink (Err fault) new later → A
+    → StepsOn (by sounding_took sounding_refused) board sink (Err fault) new later → A
 step-done TooFar board sink new later none no_picture early room far = let past = far.0 in absurd (omega (arith, early, past))
 step-done {A} Refused board sink new later none no_picture early room refused = choose refused.1
   where

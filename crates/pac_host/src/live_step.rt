@@ -8,24 +8,14 @@ ghost use Rattle.pac_block.specs.Codes.{ran_of};
 ghost use Rattle.pac_block.specs.Host as host;
 ghost use Rattle.pac_host.specs.Live as live_specs;
 ghost use Rattle.pac_host.specs.LiveStep as live_step;
-ghost use Rattle.pac_host.specs.LiveSteps.{MayStep, stop_of_once};
+ghost use Rattle.pac_host.specs.LiveSteps.{MayStep};
 
 use crate::live::PacLive;
 use crate::live_calls::check_open;
 use pac_block::ran::{bytes_of, told};
 use pac_block::sounds::Sounds;
 use pac_block::{HostFault, PacRan, RanBytes};
-use pac_board::{Board, LATEST, Once, Stop};
-
-/// The stop that a step met.
-fn stop_of(once: Once) -> Option<Stop>
-    ensures { result ≡ stop_of_once once }
-{
-    match once {
-        Once::Stopped(stop) => Some(stop),
-        Once::Stepped { ticks: _, kind: _ } => None,
-    }
-}
+use pac_board::{Board, LATEST};
 
 /// Does one step of a board, with room for its samples: what is told of it.
 fn one_step(board: &mut Board, samples: &mut [i16]) -> PacRan
@@ -44,12 +34,12 @@ fn one_step(board: &mut Board, samples: &mut [i16]) -> PacRan
         taken: 0,
         pictures: 0,
     };
-    match board.step_once(&mut sounds) {
-        Ok(once) => told(
+    match board.step_on(&mut sounds) {
+        Ok(stop) => told(
             board.time().saturating_sub(begun),
             sounds.taken as u32,
             sounds.pictures,
-            stop_of(once),
+            stop,
         ),
         // never, since there is time and room
         Err(_) => told(0, 0, 0, None),

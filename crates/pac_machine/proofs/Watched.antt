@@ -266,23 +266,6 @@ module _ (set : Parts) (marks : Option (List ℕ)) (next : Moment BoardView → 
           let past : one.count ≤ n = grind (arith, nat_tests) in
           subst (λ (m : Moment BoardView). watched_at set marks m ≡ met) (there n past) (more.last (n - one.count) (omega arith))
 
--- where nothing is watched, nothing is met
-pub unwatched-met : (set : Parts) (marks : Option (List ℕ)) (next : Moment BoardView → Next BoardView) (from : Moment BoardView) (steps : ℕ)
-    (met : Option Access) → marks ≡ None → IsWatched set marks next from steps met → met ≡ None
-unwatched-met set marks next from steps met none watched = here (nat_le steps from.steps) refl
-  where
-    here : (b : Bool) → nat_le steps from.steps ≡ b → met ≡ None
-    here true e = watched.none (grind (arith, nat_tests))
-    here false e =
-        let more : from.steps < steps = grind (arith, nat_tests) in
-        let n : ℕ = steps - from.steps - 1 in
-        let same : from.steps + suc n ≡ steps = omega arith in
-        let now = stepped next from n in
-        let ask = by_view set in
-        let seen = surroundings ask now.board in
-        sym (watched.last n same) ∙ ap (λ (marks : Option (List ℕ)). watched_at set marks now) none
-        ∙ unwatched seen now.regs (ask.request now.board) (cpu_step seen now.regs (ask.request now.board))
-
 -- ---- halted steps in one go
 
 pub waits-watched : (old : BoardStanding) (until n : ℕ) (marks : Option (List ℕ)) → is_waiting old ≡ true

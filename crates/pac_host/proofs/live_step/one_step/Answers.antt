@@ -5,7 +5,6 @@ use Rattle.pac_board.specs.Output.{sound_count, picture_count}
 use Rattle.pac_block.specs.Codes.{ran_of}
 use Rattle.pac_block.specs.Host.{samples_given}
 use Rattle.pac_host.specs.LiveStep.{outputs_of_one}
-use Rattle.pac_host.specs.LiveSteps.{stop_of_once}
 use Rattle.pac_host.proofs.LiveSteps.{few-sounds, few-pictures, once-stop, step-done}
 use Rattle.pac_block.proofs.Sounding.{are-written}
 use Rattle.pac_host.proofs.live_step.one_step.Goals as goal
@@ -13,7 +12,7 @@ use Rattle.pac_host.proofs.live_step.one_step.Goals as goal
 pub overflow_cast-sounds : goal.overflow_cast-sounds
 overflow_cast-sounds c =
     let outputs = outputs_of_one c.args.board.now in
-    let written = are-written outputs _ c.step_once.new.sink (omega arith) (omega arith) c.in-Ok.ensures.sink_is in
+    let written = are-written outputs _ c.step_on.new.sink (omega arith) (omega arith) c.in-Ok.ensures.0.sink_is in
     let count = written.taken in
     let few = few-sounds c.args.board.now in
     omega (arith, count, few)
@@ -21,9 +20,9 @@ overflow_cast-sounds c =
 pub returns-in-Ok-clause-samples : goal.returns-in-Ok-clause-samples
 returns-in-Ok-clause-samples c =
     let outputs = outputs_of_one c.args.board.now in
-    let written = are-written outputs _ c.step_once.new.sink (omega arith) (omega arith) c.in-Ok.ensures.sink_is in
+    let written = are-written outputs _ c.step_on.new.sink (omega arith) (omega arith) c.in-Ok.ensures.0.sink_is in
     let same = written.same in
-    let count : c.step_once.new.sink.taken ≡ sound_count outputs = let t = written.taken in omega (arith, t) in
+    let count : c.step_on.new.sink.taken ≡ sound_count outputs = let t = written.taken in omega (arith, t) in
     let whole = written.samples ∙ ap (λ n. samples_given outputs ++ drop n c.args.samples.now) count in
     search rules
 
@@ -31,26 +30,26 @@ pub returns-in-Ok-clause-ran : goal.returns-in-Ok-clause-ran
 returns-in-Ok-clause-ran c =
     let old = c.args.board.now in
     let outputs = outputs_of_one old in
-    let one = c.in-Ok.ensures in
-    let written = are-written outputs _ c.step_once.new.sink (omega arith) (omega arith) one.sink_is in
+    let one = c.in-Ok.ensures.0 in
+    let written = are-written outputs _ c.step_on.new.sink (omega arith) (omega arith) one.sink_is in
     let few = few-pictures old in
-    let samples : c.step_once.new.sink.taken ≡ sound_count outputs = let t = written.taken in omega (arith, t) in
-    let pictures : c.step_once.new.sink.pictures ≡ picture_count outputs = let p = written.pictures in omega (arith, few, p) in
+    let samples : c.step_on.new.sink.taken ≡ sound_count outputs = let t = written.taken in omega (arith, t) in
+    let pictures : c.step_on.new.sink.pictures ≡ picture_count outputs = let p = written.pictures in omega (arith, few, p) in
     let ticks = c.saturating_sub.ensures ∙ (λ i. c.time.ensures.time i - c.time-begun.ensures.time i) in
-    let stop = c.stop_of.ensures ∙ ap stop_of_once one.once_is ∙ once-stop (next_of old) old.state.now.time in
+    let stop = c.in-Ok.ensures.1 ∙ once-stop (next_of old) old.state.now.time in
     c.told.ensures ∙ (λ i. ran_of (ticks i) (samples i) (pictures i) (stop i))
 
 pub returns-in-Err-clause-board : goal.returns-in-Err-clause-board
 returns-in-Err-clause-board c =
-    step-done c.in-Err.field-0 c.args.board.now _ c.step_once.new.self c.step_once.new.sink (omega arith) (omega arith) c.requires.early
+    step-done c.in-Err.field-0 c.args.board.now _ c.step_on.new.self c.step_on.new.sink (omega arith) (omega arith) c.requires.early
     c.requires.room c.in-Err.ensures
 
 pub returns-in-Err-clause-samples : goal.returns-in-Err-clause-samples
 returns-in-Err-clause-samples c =
-    step-done c.in-Err.field-0 c.args.board.now _ c.step_once.new.self c.step_once.new.sink (omega arith) (omega arith) c.requires.early
+    step-done c.in-Err.field-0 c.args.board.now _ c.step_on.new.self c.step_on.new.sink (omega arith) (omega arith) c.requires.early
     c.requires.room c.in-Err.ensures
 
 pub returns-in-Err-clause-ran : goal.returns-in-Err-clause-ran
 returns-in-Err-clause-ran c =
-    step-done c.in-Err.field-0 c.args.board.now _ c.step_once.new.self c.step_once.new.sink (omega arith) (omega arith) c.requires.early
+    step-done c.in-Err.field-0 c.args.board.now _ c.step_on.new.self c.step_on.new.sink (omega arith) (omega arith) c.requires.early
     c.requires.room c.in-Err.ensures

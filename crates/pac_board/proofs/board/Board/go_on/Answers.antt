@@ -1,19 +1,67 @@
--- A stretch of one step.
-use Rattle.std.proofs.Common.{◌+◌, take, ap, sym, subst, arith}
-use Rattle.pac_board.specs.Calls.{with_due}
-use Rattle.pac_board.specs.State.{BoardValue}
-use Rattle.pac_board.specs.Stretches.{IsStretched}
+-- A batch of the machine's that is one step is a stretch of the board's, which counts it.
+use Rattle.std.proofs.Common.{◌≡◌, ◌+◌, ◌-◌, ◌≤◌, ℕ, ℤ, suc, List, Option, refl, ap, subst, arith}
+use Rattle.pac_board_model.specs.BoardView.{BoardView}
+use Rattle.pac_board_model.specs.Step.{Moment, step}
+use Rattle.pac_board_model.specs.Trace.{by_view}
+use Rattle.pac_board_model.proofs.Walks.{step-timely}
+use Rattle.pac_cpu.specs.declared.once.Stop.{Stop}
+use Rattle.pac_machine.specs.BurstsProofs.{MakesBatch, batch_at, line_end}
+use Rattle.pac_machine.specs.StandingProofs.{BoardStanding}
+use Rattle.pac_machine.specs.declared.due.Due.{Due}
+use Rattle.pac_board.specs.State.{BoardValue, steps_counted}
+use Rattle.pac_board.specs.Stretches.{HasBatch, IsStretched}
 use Rattle.pac_board.proofs.Stretches.{single-goes}
+use Rattle.pac_board.proofs.Walked.{walked-after}
 use Rattle.pac_board.proofs.board.Board.go_on.Goals as goal
 
-pub returns : goal.returns
-returns c =
-    let old = c.args.self.now in
-    let made = c.make_stretch.ensures in
-    let due = c.make_stretch.result.2 in
-    let time = c.time-near.ensures.time in
-    let single = made.single (omega arith) in
-    let none = ap (λ n. take n c.make_stretch.new.samples) single in
-    subst (λ (board : BoardValue). IsStretched old (old.state.now.time + 1) c.make_stretch.new.met (with_due board due))
-    (sym c.self.view_is)
-    (single-goes made.made (omega arith) none)
+-- a board that holds a machine
+abbrev held : BoardStanding → (asked made since : ℕ) → Due → BoardValue
+held machine asked made since due = record {
+  set = machine.set;
+  state = record { now = machine.now; asked = asked; due = due };
+  made = steps_counted made (machine.now.steps - since);
+}
+
+module _ {old new : BoardStanding} {limit : ℕ} {stop : Option Stop} {given : List ℤ} {due : Due}
+    (made : MakesBatch old limit new stop given due) where
+  steps-on : old.now.steps ≤ new.now.steps
+  steps-on =
+      let timely = λ (now : Moment BoardView). step-timely (by_view old.set) now in
+      let more = walked-after (step (by_view old.set)) (line_end limit old.now.time) timely old.now (suc made.tries) in
+      let longer = more.steps in
+      let same = ap (λ (m : Moment BoardView). m.steps) made.now in
+      omega arith
+
+  batch-held : (asked counted since : ℕ) (before : Due) → since ≤ old.now.steps
+      → HasBatch (held old asked counted since before) limit stop given (held new asked counted since due)
+  batch-held asked counted since before earlier =
+      let later = steps-on in
+      let same = ap (λ (m : Moment BoardView). m.steps) made.now in
+      let count : steps_counted counted (new.now.steps - since)
+      ≡ steps_counted (steps_counted counted (old.now.steps - since)) ((batch_at old limit (suc made.tries)).now.steps - old.now.steps)
+      = omega arith in
+      record {
+        tries = made.tries;
+        going = made.going;
+        before = made.before;
+        board = λ i. record {
+          set = made.set i;
+          state = record { now = made.now i; asked = asked; due = due };
+          made = count i;
+        };
+        stop_is = made.stop_is;
+        outputs = made.outputs;
+      }
+
+pub invariant_of-self : goal.invariant_of-self
+invariant_of-self c =
+    let later = steps-on c.make_step-self-inside.ensures in
+    let since = c.self.invariant.since in
+    record { asked = c.self.invariant.asked; since = omega arith }
+
+pub returns-clause-made : goal.returns-clause-made
+returns-clause-made c =
+    let of = c.self.inside in
+    let new = held c.make_step-self-inside.new.self of.asked of.made of.since c.make_step-self-inside.result in
+    subst (λ (b : BoardValue). IsStretched b (b.state.now.time + 1) c.make_step-self-inside.new.met new) c.self.view_is
+    (single-goes (batch-held c.make_step-self-inside.ensures of.asked of.made of.since of.due c.self.invariant.since) refl refl)

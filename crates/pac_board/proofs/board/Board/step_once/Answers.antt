@@ -1,14 +1,33 @@
--- What the step gave was refused in part.
-use Rattle.std.proofs.Common.{◌≡◌, rules, inr}
-use Rattle.pac_board.specs.Sinks.{TookAll}
-use Rattle.pac_board.specs.State.{due_outputs, nothing_due}
-use Rattle.pac_board.specs.Calls.{with_due}
-use Rattle.pac_board.proofs.Offered.{step-refused}
+-- The kind of a step was found before it, and before what was due was offered.
+use Rattle.std.proofs.Common.{◌-◌, ℕ, ap, ◌∙◌, arith, rules}
+use Rattle.pac_machine.specs.BurstsProofs.{IsNextKind}
+use Rattle.pac_machine.specs.Standing.{nothing_due}
+use Rattle.pac_board.specs.Calls.{next_of}
+use Rattle.pac_board.specs.TurnsProofs.{told_once}
+use Rattle.pac_board.proofs.Singles.{is-told, step-short}
 use Rattle.pac_board.proofs.board.Board.step_once.Goals as goal
 
-pub returns-in-Err : goal.returns-in-Err
-returns-in-Err g c =
+pub once_told-requires : goal.once_told-requires
+once_told-requires g c =
     let old = c.args.self.now in
-    let same : c.offer.new.self ≡ with_due old nothing_due = search rules in
-    let before : TookAll g.S.Sink.took c.args.sink.now (due_outputs old) c.offer.new.sink = search rules in
-    (search rules, inr (step-refused same before c.in-Err.ensures))
+    let short = step-short old c.step_on.new.self nothing_due nothing_due c.in-Ok.ensures.0.board in
+    let later = short.later in
+    let most = short.most in
+    let begun = c.time-begun.ensures.time in
+    record { later = omega arith; most = omega arith }
+
+pub returns-in-Ok : goal.returns-in-Ok
+returns-in-Ok g c =
+    let old = c.args.self.now in
+    let new = c.step_on.new.self in
+    let done = c.in-Ok.ensures.0 in
+    let kind : IsNextKind (next_of old) c.kind-kind.result = search rules in
+    let begun = ap (λ (n : ℕ). told_once c.in-Ok.met (new.state.now.time - n) c.kind-kind.result) c.time-begun.ensures.time in
+    record {
+      early = done.early;
+      board = done.board;
+      once_is =
+          c.once_told.ensures ∙ begun
+          ∙ is-told old new c.in-Ok.met c.kind-kind.result nothing_due nothing_due kind done.board c.in-Ok.ensures.1;
+      sink_is = done.sink_is;
+    }

@@ -6,7 +6,8 @@ use Rattle.pac_board.proofs.board.Board.turn.Goals as goal
 pub returns-in_err-offer : goal.returns-in_err-offer
 returns-in_err-offer g c =
     let told = err_from_is_err_and c.from_residual.result c.from_residual.ensures.1 in
-    rw told.1 (turn-left c.do_step-once.ensures c.in_err-offer.ensures)
+    rw told.1 (turn-left c.do_step-met.ensures.done c.in_err-offer.ensures)
 
 pub returns : goal.returns
-returns g c = let given = c.in_ok-offer.ensures in turn-taken c.do_step-once.ensures given.0 given.1
+returns g c =
+    let given = c.in_ok-offer.ensures in (turn-taken c.do_step-met.ensures.done given.0 given.1, c.do_step-met.ensures.stop)

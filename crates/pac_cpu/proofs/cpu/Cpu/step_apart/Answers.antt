@@ -9,4 +9,4 @@ use Rattle.pac_cpu.proofs.cpu.Cpu.step_apart.Goals as goal
 pub returns-clause-time : goal.returns-clause-time
 returns-clause-time g c =
     let P : Once → Type 0 = λ once. IfStepped once (λ ticks kind. (least_ticks ≤ ticks) × (ticks ≤ most_ticks)) in
-    subst P (sym c.advance_apart.ensures.once) (once-in-time _ (cpu-step-in-time _ _ _))
+    subst P (sym c.advance.ensures.once) (once-in-time _ (cpu-step-in-time _ _ _))

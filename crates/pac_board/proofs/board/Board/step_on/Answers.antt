@@ -1,0 +1,14 @@
+-- What the step gave was refused in part.
+use Rattle.std.proofs.Common.{◌≡◌, rules, inr}
+use Rattle.pac_board.specs.Sinks.{TookAll}
+use Rattle.pac_board.specs.State.{due_outputs, nothing_due}
+use Rattle.pac_board.specs.Calls.{with_due}
+use Rattle.pac_board.proofs.Turns.{step-refused}
+use Rattle.pac_board.proofs.board.Board.step_on.Goals as goal
+
+pub returns-in-Err : goal.returns-in-Err
+returns-in-Err g c =
+    let old = c.args.self.now in
+    let same : c.offer.new.self ≡ with_due old nothing_due = search rules in
+    let before : TookAll g.S.Sink.took c.args.sink.now (due_outputs old) c.offer.new.sink = search rules in
+    (search rules, inr (step-refused same before c.in-Err.ensures))
