@@ -10,7 +10,7 @@ use crate::machine::Machine;
 use pac_cpu::Cpu;
 use pac_map::{Map, Memory, Raw, RomSet};
 use pac_picture::Picture;
-use pac_wave::Wave;
+use pac_wave::{Settings, Wave};
 
 impl Machine {
     /// The machine at power-on with ROMs of zeros, over which others are put, and the byte of the DIP switches.
@@ -25,6 +25,7 @@ impl Machine {
                 look: 0,
             },
             wave: Wave::new(),
+            settings: Settings::of(&[0; 256], &[0; 32]),
             picture: Picture::zeroed(),
             clock: 0,
             steps: 0,
@@ -38,6 +39,7 @@ impl Machine {
     {
         self.map.set.put(program, raw);
         let set = &self.map.set;
+        self.settings.put_prom(set.wave());
         self.picture
             .put_roms(set.tiles(), set.sprites(), set.lookup(), set.colours());
     }

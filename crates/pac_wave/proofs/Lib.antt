@@ -1,4 +1,3 @@
 pub mod Sums
 pub mod Registers
 pub mod Batch
-pub mod Levels

@@ -1,34 +1,43 @@
--- For proofs: what the code keeps of a voice, and the range of what a voice puts into the sound.
-use Rattle.std.specs.Prelude.{ℕ, ℤ, pos, negsuc, ◌*◌, ◌≤ℤ◌, List, [], ◌∷◌}
+-- For proofs: what the code keeps of the wave PROM and the registers, and the range of what a voice puts into the sound.
+use Rattle.std.specs.Prelude.{◌≡◌, ◌<◌, ℕ, ℤ, pos, negsuc, ◌+◌, ◌*◌, ◌%◌, ◌*ℤ◌, ◌≤ℤ◌, List, slice_index, slice_index_or}
 use Rattle.pac_wave.specs.declared.Voice.{Voice}
 use Rattle.pac_wave.specs.declared.Voice.TheVariants.{First, Second, Third}
-use Rattle.pac_wave.specs.declared.settings.Walk.{Walk}
-use Rattle.pac_wave.specs.declared.settings.Walks.{Walks}
-use Rattle.pac_wave.specs.declared.settings.Setting.{Setting}
+use Rattle.pac_wave.specs.declared.settings.Steps.{Steps}
 use Rattle.pac_wave.specs.Wave.{waveform, volume, frequency, amplified_sample}
 
--- what each sample of a waveform comes to at a volume
-abbrev pub levels_at : ℕ → List ℤ
-levels_at loudness =
-    amplified_sample 0 loudness ∷ amplified_sample 1 loudness ∷ amplified_sample 2 loudness ∷ amplified_sample 3 loudness ∷
-    amplified_sample 4 loudness ∷ amplified_sample 5 loudness ∷ amplified_sample 6 loudness ∷ amplified_sample 7 loudness ∷
-    amplified_sample 8 loudness ∷ amplified_sample 9 loudness ∷ amplified_sample 10 loudness ∷ amplified_sample 11 loudness ∷
-    amplified_sample 12 loudness ∷ amplified_sample 13 loudness ∷ amplified_sample 14 loudness ∷ amplified_sample 15 loudness ∷ []
+-- what the voices sound by: the wave PROM's bytes, and the registers
+pub record SoundSource : Type 0 where
+  pub prom : List ℕ
+  pub registers : List ℕ
 
--- where its waveform begins in the wave PROM, and what 4096 times its accumulator grows by
-abbrev pub voice_walk : List ℕ → Voice → Walk
-voice_walk registers voice = record { start = 32 * waveform registers voice; step = 4096 * frequency registers voice }
+-- a sample about its middle, at a volume, as it's added to the sound: 64 times
+abbrev pub scaled_sample : ℕ → ℕ → ℤ
+scaled_sample sample loudness = pos 64 *ℤ amplified_sample sample loudness
 
-abbrev pub walks_of : List ℕ → Walks
-walks_of registers = record {
-  first = voice_walk registers First;
-  second = voice_walk registers Second;
-  third = voice_walk registers Third;
+-- 64 times what the sample at a place of a voice's waveform puts into the sound
+abbrev pub scaled_level : (prom registers : List ℕ) → Voice → ℕ → ℤ
+scaled_level prom registers voice place =
+    scaled_sample (slice_index prom (32 * waveform registers voice + place) % 16) (volume registers voice)
+
+-- these are told beforehand, for each of the 32 places
+abbrev pub AreLevels : (prom registers : List ℕ) → Voice → List ℤ → Type 0
+AreLevels prom registers voice levels =
+    (place : ℕ) → place < 32 → slice_index_or levels place (pos 0) ≡ scaled_level prom registers voice place
+
+-- what 4096 times a voice's accumulator grows by
+abbrev pub step_of : List ℕ → Voice → ℕ
+step_of registers voice = 4096 * frequency registers voice
+
+abbrev pub steps_of : List ℕ → Steps
+steps_of registers = record {
+  first = step_of registers First;
+  second = step_of registers Second;
+  third = step_of registers Third;
 }
 
-abbrev pub voice_setting : List ℕ → Voice → Setting
-voice_setting registers voice = record { walk = voice_walk registers voice; levels = levels_at (volume registers voice) }
+-- from samples and volumes of four bits: from 64 * -8 * 15 to 64 * 7 * 15
+abbrev pub IsScaledLevel : ℤ → Type 0
+IsScaledLevel value = (negsuc 7679 ≤ℤ value) × (value ≤ℤ pos 6720)
 
--- from samples and volumes of four bits: from -8 * 15 to 7 * 15
-abbrev pub IsLevel : ℤ → Type 0
-IsLevel value = (negsuc 119 ≤ℤ value) × (value ≤ℤ pos 105)
+abbrev pub AreWithin : List ℤ → Type 0
+AreWithin levels = (place : ℕ) → place < 32 → IsScaledLevel (slice_index_or levels place (pos 0))

@@ -3,7 +3,6 @@
 
 ghost use Rattle.std.specs.Prelude.{◌≡◌, ◌<◌, ◌∷◌, [], List, ℕ, false, length};
 ghost use Rattle.pac_wave.specs.Batch.{accumulators_after_many, sound_samples};
-ghost use Rattle.pac_wave.specs.Settings.{IsLevel};
 ghost use Rattle.pac_wave.specs.Wave.{Accumulators, Fit20Bits, power_on_accumulators};
 ghost use Rattle.pac_wave.specs.WaveLaws.{accumulators_of_list};
 ghost use Rattle.pac_wave.specs.Wave as spec;
@@ -14,7 +13,7 @@ mod positions;
 mod settings;
 
 use positions::Positions;
-use settings::Settings;
+pub use settings::Settings;
 use std::marker::Model;
 
 /// One of the wave generator's voices.
@@ -28,12 +27,10 @@ pub enum Voice {
     Third,
 }
 
-/// The wave generator's accumulators, 20 bits for each voice (Namco Pac-Man service schematics), and what the registers said
-/// last.
+/// The wave generator's accumulators, 20 bits for each voice (Namco Pac-Man service schematics).
 #[derive(Drop)]
 pub struct Wave {
     positions: Positions,
-    settings: Settings,
 }
 
 impl Model for Wave {
@@ -44,17 +41,6 @@ impl Model for Wave {
     ghost view = { λ wave. wave.positions };
 
     ghost invariant = { λ wave. Fit20Bits wave.positions };
-}
-
-/// A sample of a waveform, 0 to 15, about its middle 8 and at a volume.
-#[inline]
-pub(crate) fn amplified(sample: u8, volume: u8) -> i16
-    requires sample { sample < 16 }
-    requires volume { volume < 16 }
-    ensures amplified { result ≡ spec.amplified_sample sample volume }
-    ensures within { IsLevel result }
-{
-    (i16::from(sample) - 8) * i16::from(volume)
 }
 
 /// Samples while sound is off.
@@ -79,11 +65,10 @@ impl Wave {
     {
         Wave {
             positions: Positions::of(accumulators),
-            settings: Settings::of(&[0; 32]),
         }
     }
 
-    /// Takes another's accumulators, and not what its registers said: the next sample looks at its own registers.
+    /// Takes another's accumulators.
     #[inline]
     pub fn copy_from(&mut self, other: &Wave)
         ensures { self.new ≡ other.now }
@@ -94,31 +79,39 @@ impl Wave {
     /// The next sound sample, -23,040 to 20,160, from the wave PROM's 256 bytes and the 32 registers, of which the
     /// low four bits count; register n is the one at address 5040H + n. While sound is off the sample is 0 and the
     /// accumulators stay; else they grow by their voices' frequencies after the sample.
-    #[inline(always)]
     pub fn tick(&mut self, prom: &[u8; 256], registers: &[u8; 32], on: bool) -> i16
         ensures sample { result ≡ spec.sound_sample prom.now registers.now (spec.accumulator self.old) on }
         ensures accumulators { self.new ≡ spec.accumulators_after registers.now on self.old }
         ensures within { wave_proofs.IsSample result }
     {
+        self.sample(&Settings::of(prom, registers), on)
+    }
+
+    /// The next sound sample, as `tick` gives it, by settings.
+    #[inline(always)]
+    pub fn sample(&mut self, settings: &Settings, on: bool) -> i16
+        ensures sample { result
+            ≡ spec.sound_sample settings.now.prom settings.now.registers (spec.accumulator self.old) on }
+        ensures accumulators { self.new ≡ spec.accumulators_after settings.now.registers on self.old }
+        ensures within { wave_proofs.IsSample result }
+    {
         if !on {
             return 0;
         }
-        self.settings.follow(registers);
-        self.positions
-            .next(&self.settings, &self.settings.walks(), prom)
+        self.positions.next(settings, &settings.steps())
     }
 
-    /// The next sound samples, as many as there is room for, while the registers and whether sound is on stay as they are: what so many
-    /// calls of `tick` would give. The registers are looked at once.
+    /// The next sound samples, as many as there is room for, while the settings and whether sound is on stay as they are: what so many
+    /// calls of `sample` would give.
     #[inline]
     #[tactic(auto, using(crate::proofs::Batch::stays))]
-    pub fn ticks(&mut self, prom: &[u8; 256], registers: &[u8; 32], on: bool, samples: &mut [i16])
-        ensures samples { samples.new ≡ sound_samples prom.now registers.now on self.old (length samples.old) }
-        ensures accumulators { self.new ≡ accumulators_after_many registers.now on self.old (length samples.old) }
+    pub fn ticks(&mut self, settings: &Settings, on: bool, samples: &mut [i16])
+        ensures samples { samples.new
+            ≡ sound_samples settings.now.prom settings.now.registers on self.old (length samples.old) }
+        ensures accumulators { self.new ≡ accumulators_after_many settings.now.registers on self.old (length samples.old) }
     {
         if on {
-            self.settings.follow(registers);
-            self.positions.fill(&self.settings, prom, samples);
+            self.positions.fill(settings, samples);
             return;
         }
         silence(samples);

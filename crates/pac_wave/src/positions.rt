@@ -1,15 +1,15 @@
 //! Where the three voices stand in their waveforms.
 
-ghost use Rattle.std.specs.Prelude.{◌≡◌, true, length};
+ghost use Rattle.std.specs.Prelude.{◌≡◌, ℤ, pos, ◌*ℤ◌, true, length};
 ghost use Rattle.pac_wave.specs.Batch.{accumulators_after_many, sound_samples};
-ghost use Rattle.pac_wave.specs.Settings.{IsLevel, walks_of};
+ghost use Rattle.pac_wave.specs.Settings.{IsScaledLevel, steps_of};
 ghost use Rattle.pac_wave.specs.Wave.{Fit20Bits};
 ghost use Rattle.pac_wave.specs.WaveLaws.{accumulators_of_list};
 ghost use Rattle.pac_wave.specs.Wave as spec;
 ghost use Rattle.pac_wave.specs.WaveProofs as wave_proofs;
 
 use crate::Voice;
-use crate::settings::{Settings, Walks};
+use crate::settings::{Settings, Steps};
 use std::marker::Model;
 
 /// 4096 times the accumulators, which have 20 bits each.
@@ -36,16 +36,17 @@ impl Model for Positions {
     } };
 }
 
-/// The sound sample that three voices add up to.
-#[inline]
+/// The sound sample that three voices add up to, of each of which there is 64 times what it puts into the sound.
+#[inline(always)]
 fn mixed(first: i16, second: i16, third: i16) -> i16
-    requires first { IsLevel first }
-    requires second { IsLevel second }
-    requires third { IsLevel third }
-    ensures mixed { result ≡ spec.mixed_voices first second third }
+    requires first { IsScaledLevel first }
+    requires second { IsScaledLevel second }
+    requires third { IsScaledLevel third }
+    ensures mixed { (one two three : ℤ) → first ≡ pos 64 *ℤ one → second ≡ pos 64 *ℤ two → third ≡ pos 64 *ℤ three
+        → result ≡ spec.mixed_voices one two three }
     ensures within { wave_proofs.IsSample result }
 {
-    64 * (first + second + third)
+    first + second + third
 }
 
 impl Positions {
@@ -94,36 +95,36 @@ impl Positions {
 
     /// The next sound sample while sound is on, after which the voices move on.
     #[inline(always)]
-    pub(crate) fn next(&mut self, settings: &Settings, walks: &Walks, prom: &[u8; 256]) -> i16
-        requires { walks.now ≡ walks_of settings.now }
-        ensures sample { result ≡ spec.sound_sample prom.now settings.now (spec.accumulator self.old) true }
-        ensures accumulators { self.new ≡ spec.accumulators_after settings.now true self.old }
+    pub(crate) fn next(&mut self, settings: &Settings, steps: &Steps) -> i16
+        requires { steps.now ≡ steps_of settings.now.registers }
+        ensures sample { result ≡ spec.sound_sample settings.now.prom settings.now.registers (spec.accumulator self.old) true }
+        ensures accumulators { self.new ≡ spec.accumulators_after settings.now.registers true self.old }
         ensures within { wave_proofs.IsSample result }
     {
         let sample = mixed(
-            settings.level(prom, Voice::First, walks.first, self.first / 4096),
-            settings.level(prom, Voice::Second, walks.second, self.second / 4096),
-            settings.level(prom, Voice::Third, walks.third, self.third / 4096),
+            settings.level(Voice::First, self.first / 4096),
+            settings.level(Voice::Second, self.second / 4096),
+            settings.level(Voice::Third, self.third / 4096),
         );
-        self.first = settings.grown(Voice::First, walks.first, self.first);
-        self.second = settings.grown(Voice::Second, walks.second, self.second);
-        self.third = settings.grown(Voice::Third, walks.third, self.third);
+        self.first = settings.grown(Voice::First, steps.first, self.first);
+        self.second = settings.grown(Voice::Second, steps.second, self.second);
+        self.third = settings.grown(Voice::Third, steps.third, self.third);
         sample
     }
 
-    /// The next sound samples while sound is on, as many as there is room for. Meanwhile the positions, and how the voices walk, stay in
+    /// The next sound samples while sound is on, as many as there is room for. Meanwhile the positions, and what they grow by, stay in
     /// registers of the machine.
     #[inline]
-    pub(crate) fn fill(&mut self, settings: &Settings, prom: &[u8; 256], samples: &mut [i16])
+    pub(crate) fn fill(&mut self, settings: &Settings, samples: &mut [i16])
         ensures samples { samples.new
-            ≡ sound_samples prom.now settings.now true self.old (length samples.old) }
+            ≡ sound_samples settings.now.prom settings.now.registers true self.old (length samples.old) }
         ensures accumulators { self.new
-            ≡ accumulators_after_many settings.now true self.old (length samples.old) }
+            ≡ accumulators_after_many settings.now.registers true self.old (length samples.old) }
     {
-        let walks = settings.walks();
+        let steps = settings.steps();
         let mut now = self.copied();
         for sample in samples.iter_mut() {
-            *sample = now.next(settings, &walks, prom);
+            *sample = now.next(settings, &steps);
         }
         self.copy_from(&now);
     }

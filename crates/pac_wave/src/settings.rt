@@ -1,37 +1,19 @@
-//! What the registers say of the voices, told once for as many samples as they stay the same.
+//! What the wave PROM and the registers say of the voices, told once for as many samples as they stay the same.
 
-ghost use Rattle.std.specs.Prelude.{◌≡◌, ◌<◌, ◌≤◌, ◌+◌, ◌*◌, ◌/◌, ◌%◌, ℕ, true, take, drop};
+ghost use Rattle.std.specs.Prelude.{◌≡◌, ◌<◌, ◌≤◌, ◌+◌, ◌*◌, ◌/◌, ◌%◌, ℕ, List, true, take, drop, pos, slice_index, slice_index_or};
 ghost use Rattle.std.specs.Int.{w64, to_le_bytes};
-ghost use Rattle.pac_wave.specs.Settings.{IsLevel, levels_at, voice_setting, voice_walk, walks_of};
+ghost use Rattle.pac_wave.specs.Settings.{AreLevels, AreWithin, IsScaledLevel, scaled_level, scaled_sample, step_of, steps_of};
 ghost use Rattle.pac_wave.specs.Wave as spec;
 
-use crate::{Voice, amplified};
+use crate::Voice;
 use std::marker::Model;
 
-/// How a voice walks through its waveform.
+/// What 4096 times each voice's accumulator grows by at a sample.
 #[derive(Clone, Copy)]
-pub(crate) struct Walk {
-    /// Where the waveform begins in the wave PROM, 0 to 224.
-    pub(crate) start: usize,
-    /// 4096 times its frequency, of 20 bits.
-    pub(crate) step: u32,
-}
-
-/// How the three voices walk.
-#[derive(Clone, Copy)]
-pub(crate) struct Walks {
-    pub(crate) first: Walk,
-    pub(crate) second: Walk,
-    pub(crate) third: Walk,
-}
-
-/// What the registers say of a voice.
-#[derive(Clone, Copy)]
-pub(crate) struct Setting {
-    /// How it walks.
-    pub(crate) walk: Walk,
-    /// What each sample of a waveform, 0 to 15, comes to at its volume.
-    pub(crate) levels: [i16; 16],
+pub(crate) struct Steps {
+    pub(crate) first: u32,
+    pub(crate) second: u32,
+    pub(crate) third: u32,
 }
 
 /// What a register holds: its low four bits.
@@ -100,61 +82,65 @@ fn frequency(registers: &[u8; 32], voice: Voice) -> u32
     }
 }
 
-/// What each sample of a waveform, 0 to 15, comes to at a volume.
-#[inline]
-fn levels(volume: u8) -> [i16; 16]
-    requires { volume < 16 }
-    ensures { result ≡ levels_at volume }
-{
-    [
-        amplified(0, volume),
-        amplified(1, volume),
-        amplified(2, volume),
-        amplified(3, volume),
-        amplified(4, volume),
-        amplified(5, volume),
-        amplified(6, volume),
-        amplified(7, volume),
-        amplified(8, volume),
-        amplified(9, volume),
-        amplified(10, volume),
-        amplified(11, volume),
-        amplified(12, volume),
-        amplified(13, volume),
-        amplified(14, volume),
-        amplified(15, volume),
-    ]
-}
-
-/// What a sample of a waveform comes to.
+/// A sample of a waveform, 0 to 15, about its middle 8 and at a volume, 64 times.
 #[inline(always)]
-fn level_of(levels: &[i16; 16], sample: u8) -> i16
-    requires { sample < 16 }
-    ensures level { (volume : ℕ) → levels.now ≡ levels_at volume → volume < 16 → result ≡ spec.amplified_sample sample volume }
-    ensures within { (volume : ℕ) → levels.now ≡ levels_at volume → volume < 16 → IsLevel result }
+fn scaled(sample: u8, volume: u8) -> i16
+    requires sample { sample < 16 }
+    requires volume { volume < 16 }
+    ensures scaled { result ≡ scaled_sample sample volume }
+    ensures within { IsScaledLevel result }
 {
-    levels[usize::from(sample)]
+    64 * ((i16::from(sample) - 8) * i16::from(volume))
 }
 
-/// How the registers say that a voice walks.
+/// What each sample of a waveform that begins at a place of the wave PROM puts into the sound at a volume.
+#[inline(never)]
+fn levels(prom: &[u8; 256], start: usize, volume: u8) -> [i16; 32]
+    requires start { start ≤ 224 }
+    requires volume { volume < 16 }
+    ensures levels { (place : ℕ) → place < 32
+        → slice_index_or result place (pos 0) ≡ scaled_sample (slice_index prom.now (start + place) % 16) volume }
+    ensures within { AreWithin result }
+{
+    let mut levels = [0; 32];
+    for place in 0..32usize {
+        levels[place] = scaled(prom[start + place] % 16, volume);
+    }
+    levels
+}
+
+/// What each sample of a voice's waveform puts into the sound at its volume.
 #[inline]
-fn read_walk(registers: &[u8; 32], voice: Voice) -> Walk
-    ensures { result ≡ voice_walk registers.now voice }
+fn read_levels(prom: &[u8; 256], registers: &[u8; 32], voice: Voice) -> [i16; 32]
+    ensures levels { AreLevels prom.now registers.now voice result }
+    ensures within { AreWithin result }
 {
-    Walk {
-        start: 32 * usize::from(waveform(registers, voice)),
-        step: 4096 * frequency(registers, voice),
+    levels(
+        prom,
+        32 * usize::from(waveform(registers, voice)),
+        volume(registers, voice),
+    )
+}
+
+/// What the registers say that 4096 times each voice's accumulator grows by.
+#[inline]
+fn read_steps(registers: &[u8; 32]) -> Steps
+    ensures { result ≡ steps_of registers.now }
+{
+    Steps {
+        first: 4096 * frequency(registers, Voice::First),
+        second: 4096 * frequency(registers, Voice::Second),
+        third: 4096 * frequency(registers, Voice::Third),
     }
 }
 
-/// What the registers say of a voice.
-fn read_setting(registers: &[u8; 32], voice: Voice) -> Setting
-    ensures { result ≡ voice_setting registers.now voice }
+/// The level at a place.
+#[inline(always)]
+fn level_at(levels: &[i16; 32], place: usize) -> i16
+    requires { place < 32 }
+    ensures { result ≡ slice_index_or levels.now place (pos 0) }
 {
-    Setting {
-        walk: read_walk(registers, voice),
-        levels: levels(volume(registers, voice)),
-    }
+    levels[place]
 }
 
 /// Eight registers as one number.
@@ -179,99 +165,117 @@ fn are_same(one: &[u8; 32], other: &[u8; 32]) -> bool
         & (word(one, 24) == word(other, 24))
 }
 
-/// Registers, with what they say of each voice. Clauses see the registers.
+/// The wave PROM and the registers, with what they say of each voice. Clauses see the PROM and the registers.
 #[derive(Drop)]
-pub(crate) struct Settings {
+pub struct Settings {
+    prom: [u8; 256],
     registers: [u8; 32],
-    first: Setting,
-    second: Setting,
-    third: Setting,
+    steps: Steps,
+    first: [i16; 32],
+    second: [i16; 32],
+    third: [i16; 32],
 }
 
 impl Model for Settings {
-    ghost use Rattle.std.specs.Prelude.{ℕ, List, ◌≡◌};
+    ghost use Rattle.std.specs.Prelude.{◌≡◌};
     ghost use Rattle.pac_wave.specs.declared.Voice.TheVariants.{First, Second, Third};
-    ghost use Rattle.pac_wave.specs.Settings.{voice_setting};
+    ghost use Rattle.pac_wave.specs.Settings.{AreLevels, AreWithin, SoundSource, steps_of};
 
-    ghost Value = { List ℕ };
+    ghost Value = { SoundSource };
 
-    ghost view = { λ settings. settings.registers };
+    ghost view = { λ settings. record { prom = settings.prom; registers = settings.registers } };
 
     ghost invariant = { λ settings. record {
-      first : settings.first ≡ voice_setting settings.registers First;
-      second : settings.second ≡ voice_setting settings.registers Second;
-      third : settings.third ≡ voice_setting settings.registers Third;
+      steps : settings.steps ≡ steps_of settings.registers;
+      first : AreLevels settings.prom settings.registers First settings.first;
+      first_within : AreWithin settings.first;
+      second : AreLevels settings.prom settings.registers Second settings.second;
+      second_within : AreWithin settings.second;
+      third : AreLevels settings.prom settings.registers Third settings.third;
+      third_within : AreWithin settings.third;
     } };
 }
 
 impl Settings {
-    /// Registers with what they say of each voice.
-    pub(crate) fn of(registers: &[u8; 32]) -> Settings
-        ensures { result ≡ registers.now }
+    /// A PROM and registers with what they say of each voice.
+    #[inline(never)]
+    pub fn of(prom: &[u8; 256], registers: &[u8; 32]) -> Settings
+        ensures { result ≡ record { prom = prom.now; registers = registers.now } }
     {
         Settings {
+            prom: *prom,
             registers: *registers,
-            first: read_setting(registers, Voice::First),
-            second: read_setting(registers, Voice::Second),
-            third: read_setting(registers, Voice::Third),
+            steps: read_steps(registers),
+            first: read_levels(prom, registers, Voice::First),
+            second: read_levels(prom, registers, Voice::Second),
+            third: read_levels(prom, registers, Voice::Third),
         }
     }
 
-    /// Takes over these registers; mostly they are as before, and then nothing is read anew.
+    /// Takes over another PROM; the registers stay.
+    pub fn put_prom(&mut self, prom: &[u8; 256])
+        ensures { self.new ≡ record { prom = prom.now; registers = self.old.registers } }
+    {
+        self.prom = *prom;
+        self.first = read_levels(prom, &self.registers, Voice::First);
+        self.second = read_levels(prom, &self.registers, Voice::Second);
+        self.third = read_levels(prom, &self.registers, Voice::Third);
+    }
+
+    /// Takes over these registers; mostly they are as before, and then nothing is told anew.
     #[inline]
-    pub(crate) fn follow(&mut self, registers: &[u8; 32])
-        ensures { self.new ≡ registers.now }
+    pub fn follow(&mut self, registers: &[u8; 32])
+        ensures { self.new ≡ record { prom = self.old.prom; registers = registers.now } }
     {
         if !are_same(&self.registers, registers) {
-            *self = Settings::of(registers);
+            self.put_registers(registers);
         }
     }
 
-    /// What the registers say of a voice.
-    #[inline(always)]
-    fn setting(&self, voice: Voice) -> &Setting
-        ensures setting { result.now ≡ voice_setting self.now voice }
-        ensures volume { spec.volume self.now voice < 16 }
+    /// Takes over other registers, and tells anew what they say.
+    #[inline(never)]
+    fn put_registers(&mut self, registers: &[u8; 32])
+        ensures { self.new ≡ record { prom = self.old.prom; registers = registers.now } }
     {
+        self.registers = *registers;
+        self.steps = read_steps(registers);
+        self.first = read_levels(&self.prom, registers, Voice::First);
+        self.second = read_levels(&self.prom, registers, Voice::Second);
+        self.third = read_levels(&self.prom, registers, Voice::Third);
+    }
+
+    /// What 4096 times each voice's accumulator grows by: by value, so that it can stay in registers of the machine while samples are
+    /// written.
+    #[inline(always)]
+    pub(crate) fn steps(&self) -> Steps
+        ensures { result ≡ steps_of self.now.registers }
+    {
+        self.steps
+    }
+
+    /// What a voice puts into the sound, 64 times.
+    #[inline(always)]
+    pub(crate) fn level(&self, voice: Voice, accumulator: u32) -> i16
+        requires { accumulator < spec.accumulator_range }
+        ensures level { result ≡ scaled_level self.now.prom self.now.registers voice (accumulator / 32768) }
+        ensures within { IsScaledLevel result }
+    {
+        let place = (accumulator / 32768) as usize;
         match voice {
-            Voice::First => &self.first,
-            Voice::Second => &self.second,
-            Voice::Third => &self.third,
+            Voice::First => level_at(&self.first, place),
+            Voice::Second => level_at(&self.second, place),
+            Voice::Third => level_at(&self.third, place),
         }
-    }
-
-    /// How each voice walks: by value, so that it can stay in registers of the machine while samples are written.
-    #[inline(always)]
-    pub(crate) fn walks(&self) -> Walks
-        ensures { result ≡ walks_of self.now }
-    {
-        Walks {
-            first: self.first.walk,
-            second: self.second.walk,
-            third: self.third.walk,
-        }
-    }
-
-    /// What a voice that walks so puts into the sound, from the wave PROM's 256 bytes.
-    #[inline(always)]
-    pub(crate) fn level(&self, prom: &[u8; 256], voice: Voice, walk: Walk, accumulator: u32) -> i16
-        requires walk { walk ≡ voice_walk self.now voice }
-        requires accumulator { accumulator < spec.accumulator_range }
-        ensures level { result ≡ spec.level prom.now self.now voice accumulator }
-        ensures within { IsLevel result }
-    {
-        let place = walk.start + (accumulator / 32768) as usize;
-        level_of(&self.setting(voice).levels, prom[place] % 16)
     }
 
     /// 4096 times an accumulator, a sample later: so it has all the bits of its word, and no sum needs a mask.
     #[inline(always)]
-    pub(crate) fn grown(&self, voice: Voice, walk: Walk, position: u32) -> u32
-        requires walk { walk ≡ voice_walk self.now voice }
+    pub(crate) fn grown(&self, voice: Voice, step: u32, position: u32) -> u32
+        requires step { step ≡ step_of self.now.registers voice }
         requires whole { position % 4096 ≡ 0 }
-        ensures grown { result / 4096 ≡ spec.grown_accumulator self.now voice (position / 4096) }
+        ensures grown { result / 4096 ≡ spec.grown_accumulator self.now.registers voice (position / 4096) }
         ensures whole { result % 4096 ≡ 0 }
     {
-        position.wrapping_add(walk.step)
+        position.wrapping_add(step)
     }
 }

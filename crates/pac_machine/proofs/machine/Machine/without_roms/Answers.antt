@@ -5,6 +5,7 @@ use Rattle.pac_picture.specs.LayerProofs.{zero_roms}
 use Rattle.pac_picture.specs.StateLaws.{PictureState}
 use Rattle.pac_picture.specs.State.{palette_of}
 use Rattle.pac_board_model.specs.BoardView.{video_roms}
+use Rattle.pac_wave.specs.Settings.{SoundSource}
 use Rattle.pac_machine.proofs.machine.Machine.without_roms.Goals as goal
 
 pub invariant_of-result : goal.invariant_of-result
@@ -17,4 +18,5 @@ invariant_of-result c = record {
   palette =
       ap (λ (picture : PictureState). picture.palette) c.zeroed-2.ensures.picture
       ∙ sym (ap (λ (set : Parts). palette_of set.colours) c.zeroed.ensures);
+  wave = ap (λ (source : SoundSource). source.prom) c.of.ensures ∙ sym (ap (λ (set : Parts). set.wave) c.zeroed.ensures);
 }

@@ -8,8 +8,8 @@ use Rattle.pac_wave.proofs.positions.Positions.fill.Goals as goal
 
 pub loop-sample-preserved : goal.loop-sample-preserved
 loop-sample-preserved c =
-    let prom = c.args.prom.now in
-    let registers = c.args.settings.now in
+    let prom = c.args.settings.now.prom in
+    let registers = c.args.settings.now.registers in
     let start = c.copied-now.result in
     let i = c.loop-sample.sample-index in
     let so_far = c.loop-sample.invariant in

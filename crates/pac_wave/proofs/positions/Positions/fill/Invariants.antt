@@ -5,6 +5,7 @@ use Rattle.pac_wave.proofs.positions.Positions.fill.Given as goal
 
 abbrev pub invariant-loop-sample : goal.invariant-loop-sample
 invariant-loop-sample l = record {
-  samples : l.samples ≡ sound_samples l.prom l.settings true l.initial.now l.sample-index ++ drop l.sample-index l.initial.samples;
-  voices : l.now ≡ accumulators_after_many l.settings true l.initial.now l.sample-index;
+  samples : l.samples
+      ≡ sound_samples l.settings.prom l.settings.registers true l.initial.now l.sample-index ++ drop l.sample-index l.initial.samples;
+  voices : l.now ≡ accumulators_after_many l.settings.registers true l.initial.now l.sample-index;
 }
