@@ -1,17 +1,19 @@
 -- Sixteen numbers of a sprite at once: painted over others, flipped, and placed where its whole box shows.
 use Rattle.std.proofs.Common.{◌≡◌, ℕ, ℤ, pos, ◌+ℤ◌, ◌≤ℤ◌, ◌+◌, ◌-◌, ◌<◌, ◌≤◌, ◌&&◌, ◌++◌, Bool, not, true, false, nat_le, nat_lt, cond}
-use Rattle.std.proofs.Common.{if◌then◌else◌, List, [], ◌∷◌, length, get_or, map, replicate, refl, sym, ap, ◌∙◌, arith}
-use Rattle.std.proofs.lemmas.Simd.{tops_compared, get_or-sel_l, get_or-zip2, length-zip2}
+use Rattle.std.proofs.Common.{if◌then◌else◌, List, [], ◌∷◌, length, get_or, map, drop, replicate, refl, sym, ap, ◌∙◌, arith}
+use Rattle.std.proofs.lemmas.Simd.{tops_compared, get_or-sel_l, get_or-zip2, length-zip2, get_or-chunk}
+use Rattle.std.proofs.lemmas.Simd.{get_or-put_chunk_at, get_or-put_chunk_above, length-put_chunk}
 use Rattle.std.proofs.lemmas.List.{length-replicate, get_or-replicate, get_or_append_left}
+use Rattle.std.proofs.lemmas.List.{length-take-le, length-drop, get_or-take, get_or-drop}
 use Rattle.std.proofs.lemmas.Bool.{cases_Bool, cases_lt}
 use Rattle.std.proofs.lemmas.Bool.Decides.{nat_tests}
 use Rattle.std.proofs.lemmas.Int.{ints}
 use mathlib.Core.Logic.{inl, inr}
-use lib.Lanes.{zip2, sel_l, top, pick_l}
+use lib.Lanes.{zip2, sel_l, top, pick_l, chunk, put_chunk}
 use lib.Dec.{eqb}
-use borrow.Rule.Slice.PartMut.{put_mid}
+use borrow.Rule.Slice.PartMut.{mid_of, put_mid}
 use mir.Syntax.{w8}
-use Rattle.pac_lemmas.proofs.Lists.{get_or-before-put_mid, get_or-after-put_mid, get_or-in-put_mid}
+use Rattle.pac_lemmas.proofs.Lists.{get_or-before-put_mid, get_or-in-put_mid}
 use Rattle.pac_num.specs.Tabulate.{tabulate}
 use Rattle.pac_sprites.specs.declared.Sprite.{Sprite}
 use Rattle.pac_sprites.specs.Sprites.{is_column_of, box_place, flipped_place}
@@ -59,28 +61,50 @@ flipped-at line k long below =
 
 -- ---- the columns of a box that shows whole
 
-pub piece-put : (line piece : List ℕ) (start part x : ℕ) → length line ≡ 288 → length piece ≡ 16 → part ≡ 16 → start ≤ 272 →
-    get_or (put_mid start part line piece) x 0
+rest-long : (line : List ℕ) (start : ℕ) → length line ≡ 288 → length (mid_of start (288 - start) line) ≡ 288 - start
+rest-long line start long = length-take-le (288 - start) (drop start line) (rw (length-drop start line) (omega (arith, long)))
+
+rest-at : (line : List ℕ) (start k : ℕ) → k < 288 - start → get_or (mid_of start (288 - start) line) k 0 ≡ get_or line (start + k) 0
+rest-at line start k inside = get_or-take (288 - start) (drop start line) k 0 inside ∙ get_or-drop start line k 0
+
+-- sixteen numbers that are read as a vector, and that are written as one
+pub piece-read : (line : List ℕ) (start k : ℕ) → start ≤ 272 → k < 16 →
+    get_or (chunk 0 16 (mid_of start (288 - start) line)) k 0 ≡ get_or line (start + k) 0
+piece-read line start k inside below =
+    let place : 0 + k ≡ k = omega arith in
+    (rw place at (get_or-chunk 0 16 (mid_of start (288 - start) line) k 0 below)) ∙ rest-at line start k (omega (arith, inside, below))
+
+pub piece-put : (line piece : List ℕ) (start x : ℕ) → length line ≡ 288 → length piece ≡ 16 → start ≤ 272 → x < 288 →
+    get_or (put_mid start (288 - start) line (put_chunk 0 (mid_of start (288 - start) line) piece)) x 0
     ≡ (if nat_le start x && nat_lt x (start + 16) then get_or piece (x - start) 0 else get_or line x 0)
-piece-put line piece start part x long sixteen is inside =
+piece-put line piece start x long sixteen inside across =
+    let rest : List ℕ = mid_of start (288 - start) line in
     let room : start ≤ length line = omega (arith, long, inside) in
-    let whole : length piece ≡ part = sixteen ∙ sym is in
+    let whole : length (put_chunk 0 rest piece) ≡ 288 - start = length-put_chunk 0 rest piece ∙ rest-long line start long in
     elim (cases_lt x start) [
       | inl before ↦
           let test : nat_le start x ≡ false = grind (arith, nat_tests, before) in
-          rw test (get_or-before-put_mid start part line piece x before room)
+          rw test (get_or-before-put_mid start (288 - start) line (put_chunk 0 rest piece) x before room)
       | inr past ↦
           let first : nat_le start x ≡ true = grind (arith, nat_tests, past) in
+          let place : start + (x - start) ≡ x = omega (arith, past) in
+          let within : get_or (put_mid start (288 - start) line (put_chunk 0 rest piece)) x 0
+          ≡ get_or (put_chunk 0 rest piece) (x - start) 0 =
+          ap (λ n. get_or (put_mid start (288 - start) line (put_chunk 0 rest piece)) n 0) (sym place)
+          ∙ get_or-in-put_mid start (288 - start) line (put_chunk 0 rest piece) (x - start) (omega (arith, past, across)) room whole in
           elim (cases_lt x (start + 16)) [
-            | inl within ↦
-                let last : nat_lt x (start + 16) ≡ true = grind (arith, nat_tests, within) in
-                let place : start + (x - start) ≡ x = omega (arith, past) in
-                rw (first, last)
-                (ap (λ n. get_or (put_mid start part line piece) n 0) (sym place)
-                ∙ get_or-in-put_mid start part line piece (x - start) (omega (arith, is, past, within)) room whole)
+            | inl near ↦
+                let last : nat_lt x (start + 16) ≡ true = grind (arith, nat_tests, near) in
+                let lane : x - start < length piece = omega (arith, sixteen, past, near) in
+                let fits : 0 + length piece ≤ length rest = omega (arith, sixteen, rest-long line start long, inside) in
+                let zero : 0 + (x - start) ≡ x - start = omega arith in
+                rw (first, last) (within ∙ (rw zero at (get_or-put_chunk_at 0 rest piece (x - start) 0 lane fits)))
             | inr over ↦
                 let last : nat_lt x (start + 16) ≡ false = grind (arith, nat_tests, over) in
-                rw (first, last) (get_or-after-put_mid start part line piece x (omega (arith, is, over)) room whole)
+                let above : 0 + length piece ≤ x - start = omega (arith, sixteen, over) in
+                rw (first, last)
+                (within ∙ get_or-put_chunk_above 0 rest piece (x - start) 0 above
+                ∙ (rest-at line start (x - start) (omega (arith, past, across)) ∙ ap (λ n. get_or line n 0) place))
           ]
     ]
 

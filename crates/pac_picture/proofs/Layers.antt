@@ -49,7 +49,7 @@ pub length-stale : length stale_rows ≡ 28
 unfolding stale_rows
 length-stale = length-tabulate 28 (λ _. stale_row)
 
-pub new-layer : (roms : VideoRoms) (shadows : List Shadow) (strips : List (Strip (List (List ℕ)))) → shadows ≡ stale_rows →
+pub new-layer : (roms : VideoRoms) (shadows : List Shadow) (strips : List (Strip (List (List (List ℕ))))) → shadows ≡ stale_rows →
     length strips ≡ 28 →
     IsLayer roms shadows strips
 new-layer roms shadows strips is high = record {
@@ -62,7 +62,7 @@ new-layer roms shadows strips is high = record {
 }
 
 -- a line of the layer
-pub line-kept : (roms : VideoRoms) (shadow : Shadow) (strip : List (List ℕ)) (y : ℕ) → IsDrawn roms shadow strip →
+pub line-kept : (roms : VideoRoms) (shadow : Shadow) (strip : List (List (List ℕ))) (y : ℕ) → IsDrawn roms shadow strip →
     shadow.stale ≡ false → tabulate 288 (λ x. row_dot strip x (y % 8)) ≡ tabulate 288 (λ x. kept_dot roms shadow x y)
 unfolding kept_dot
 line-kept roms shadow strip y drawn fresh =

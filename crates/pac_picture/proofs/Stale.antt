@@ -73,7 +73,7 @@ made-are-stale old new is high = record {
 }
 
 -- a layer of which every cell counts as differing, whatever its ROMs are
-pub undrawn-layer : (roms : VideoRoms) (shadows : List Shadow) (strips : List (Strip (List (List ℕ)))) → AreStale shadows →
+pub undrawn-layer : (roms : VideoRoms) (shadows : List Shadow) (strips : List (Strip (List (List (List ℕ))))) → AreStale shadows →
     length strips ≡ 28 →
     IsLayer roms shadows strips
 undrawn-layer roms shadows strips are high = record {

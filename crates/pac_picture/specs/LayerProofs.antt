@@ -40,12 +40,12 @@ made_stale shadow = record shadow { stale = true }
 unfoldable pub kept_dot : VideoRoms → Shadow → ℕ → ℕ → ℕ
 kept_dot roms shadow x y = tile_number roms (slice_index shadow.colours (x / 8)) (slice_index shadow.tiles (x / 8)) (x % 8) (y % 8)
 
--- the number in column x on line y of lines
-abbrev pub row_dot : List (List ℕ) → ℕ → ℕ → ℕ
-row_dot lines x y = slice_index (slice_index_or lines y []) x
+-- the number in column x on line y of lines, of which each has its numbers sixteen by sixteen
+abbrev pub row_dot : List (List (List ℕ)) → ℕ → ℕ → ℕ
+row_dot lines x y = slice_index (slice_index_or (slice_index_or lines y []) (x / 16) []) (x % 16)
 
 -- where a row of cells isn't stale, its lines are those of the cells that its bytes say
-abbrev pub IsDrawn : VideoRoms → Shadow → List (List ℕ) → Type 0
+abbrev pub IsDrawn : VideoRoms → Shadow → List (List (List ℕ)) → Type 0
 IsDrawn roms shadow lines =
     shadow.stale ≡ false → (x y : ℕ) → x < width → y < 8 → row_dot lines x y ≡ kept_dot roms shadow x y
 
@@ -55,11 +55,11 @@ pub record LayerState : Type 0 where
   pub shadows : List Shadow
 
 -- the lines of the row of a number
-abbrev pub lines_at : List (Strip (List (List ℕ))) → ℕ → List (List ℕ)
+abbrev pub lines_at : List (Strip (List (List (List ℕ)))) → ℕ → List (List (List ℕ))
 lines_at strips row = (slice_index_or strips row (record { lines = [] })).lines
 
 -- the layer's rows are whole, and drawn
-pub record IsLayer (roms : VideoRoms) (shadows : List Shadow) (strips : List (Strip (List (List ℕ)))) : Type 0 where
+pub record IsLayer (roms : VideoRoms) (shadows : List Shadow) (strips : List (Strip (List (List (List ℕ))))) : Type 0 where
   pub shadows_high : length shadows ≡ rows
   pub strips_high : length strips ≡ rows
   pub drawn : (row : ℕ) → row < rows → IsDrawn roms (shadow_at shadows row) (lines_at strips row)

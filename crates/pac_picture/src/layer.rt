@@ -15,25 +15,26 @@ use crate::laws::changed;
 use crate::screen::Screen;
 use crate::shadow::Shadow;
 use crate::size::{COLUMNS, ROWS, RowBytes, WIDTH, repeated};
-use crate::strip::{RowLines, draw_all, lay_line, marked, redraw};
+use crate::strip::{PLACES, RowLines, draw_all, lay_line, marked, redraw};
 use std::marker::Model;
 
-/// For each cell of a row whether all count, or one of two lists has the place.
+/// For each cell of a row whether one of two lists has the place.
 #[inline]
-fn either(all: bool, one: &[bool; COLUMNS], other: &[bool; COLUMNS]) -> [bool; COLUMNS]
+fn either(one: &[bool; COLUMNS], other: &[bool; COLUMNS]) -> [bool; COLUMNS]
     ensures { (k : ℕ) → k < tiles_laws.columns → slice_index_or result k false
-        ≡ (all || slice_index_or one.now k false || slice_index_or other.now k false) }
+        ≡ (slice_index_or one.now k false || slice_index_or other.now k false) }
 {
     let mut any = [false; COLUMNS];
     for k in 0..COLUMNS {
-        any[k] = all || one[k] || other[k];
+        any[k] = one[k] || other[k];
     }
     any
 }
 
-/// Which cells of a row differ from these bytes.
+/// Which cells of a row differ from these bytes, where not all of them do.
 #[inline]
 fn differing(shadow: &Shadow, tiles: &RowBytes, colours: &RowBytes) -> [bool; COLUMNS]
+    requires { shadow.now.stale ≡ false }
     ensures { (column : ℕ) → column < tiles_laws.columns → slice_index_or result column false
         ≡ cell_differs shadow.now tiles.now colours.now column }
 {
@@ -41,7 +42,7 @@ fn differing(shadow: &Shadow, tiles: &RowBytes, colours: &RowBytes) -> [bool; CO
     let mut by_colour = [false; COLUMNS];
     changed(tiles, &shadow.tiles, &mut by_tile);
     changed(colours, &shadow.colours, &mut by_colour);
-    either(shadow.stale, &by_tile, &by_colour)
+    either(&by_tile, &by_colour)
 }
 
 /// Draws those cells of a row again that differ from these bytes, looking at each of them, and all of a row of which none is known to be
@@ -106,7 +107,7 @@ pub(crate) fn lay_alone(graphics: &Graphics, screen: &Screen<'_>, y: u8, out: &m
     ensures { out.new ≡ tabulate tile.width (λ x. kept_dot graphics.now (drawn_from screen.now (y / 8)) x y) }
 {
     let row = y / 8;
-    let mut lines = [[0; WIDTH]; 8];
+    let mut lines = [[[0; 16]; PLACES]; 8];
     draw_all(
         &mut lines,
         graphics,
@@ -160,7 +161,7 @@ impl Layer {
     {
         Layer {
             graphics,
-            rows: repeated(Strip::of([[0; WIDTH]; 8])),
+            rows: repeated(Strip::of([[[0; 16]; PLACES]; 8])),
             shadows: repeated(Shadow::new()),
         }
     }
@@ -171,7 +172,7 @@ impl Layer {
     {
         Layer {
             graphics: Graphics::zeroed(),
-            rows: repeated(Strip::of([[0; WIDTH]; 8])),
+            rows: repeated(Strip::of([[[0; 16]; PLACES]; 8])),
             shadows: repeated(Shadow::new()),
         }
     }

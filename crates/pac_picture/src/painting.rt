@@ -55,19 +55,17 @@ fn sixteen_of(line: &[u8; WIDTH], start: usize) -> [u8; 16]
     requires { start ≤ 272 }
     ensures { (k : ℕ) → k < 16 → slice_index result k ≡ slice_index line.now (start + k) }
 {
-    let mut numbers = [0; 16];
-    numbers.copy_from_slice(&line[start..start + 16]);
-    numbers
+    u8x16::from_slice(&line[start..]).to_array()
 }
 
-/// Writes sixteen numbers over those of a line from a column on.
+/// Writes sixteen numbers over those of a line from a column on: a vector, since a copy between slices looks whether they overlap.
 #[inline(always)]
-fn put_numbers(line: &mut [u8; WIDTH], start: usize, numbers: &[u8; 16])
+pub(crate) fn put_numbers(line: &mut [u8; WIDTH], start: usize, numbers: &[u8; 16])
     requires { start ≤ 272 }
     ensures { (x : ℕ) → x < tile.width → slice_index line.new x
         ≡ (if nat_le start x && nat_lt x (start + 16) then slice_index numbers.now (x - start) else slice_index line.old x) }
 {
-    line[start..start + 16].copy_from_slice(numbers);
+    u8x16::from_array(*numbers).copy_to_slice(&mut line[start..]);
 }
 
 /// Paints sixteen numbers of a sprite over those of a line from a column on.

@@ -1,47 +1,28 @@
-//! A row of cells as it is drawn: the eight lines of its colour numbers.
+//! A row of cells as it is drawn: the eight lines of its colour numbers, those of two cells side by side at a time.
 
-ghost use Rattle.std.specs.Prelude.{◌≡◌, ◌<◌, ◌≤◌, ◌+◌, ◌-◌, ◌*◌, ◌/◌, ◌%◌, ◌==◌, ℕ, true, false, ◌&&◌, if◌then◌else◌};
-ghost use Rattle.std.specs.Prelude.{nat_le, nat_lt, count_by, slice_index, slice_index_or};
+ghost use Rattle.std.specs.Prelude.{◌≡◌, ◌<◌, ◌≤◌, ◌+◌, ◌-◌, ◌*◌, ◌/◌, ◌%◌, ◌==◌, ℕ, true, false, [], if◌then◌else◌};
+ghost use Rattle.std.specs.Prelude.{nat_lt, count_by, slice_index, slice_index_or};
 ghost use Rattle.pac_num.specs.Tabulate.{tabulate};
 ghost use Rattle.pac_tiles.specs.Tiles as tile;
 ghost use Rattle.pac_tiles.specs.TilesLaws as tiles_laws;
 ghost use Rattle.pac_picture.specs.Layer.{shadow_from};
 ghost use Rattle.pac_picture.specs.LayerProofs.{kept_dot, row_dot};
-ghost use Rattle.pac_picture.specs.Strips.{pattern_dot, tile_pairs, has_marked, IsTwin};
+ghost use Rattle.pac_picture.specs.Strips.{beside, tile_pairs, twin_dot, has_marked, AreDrawn, AreLike, IsTwin};
 
 use crate::graphics::{Graphics, TilePattern};
+use crate::painting::put_numbers;
 use crate::size::{COLUMNS, RowBytes, WIDTH};
 use std::simd::prelude::*;
 
-/// The colour numbers of a row of cells, line by line.
-pub(crate) type RowLines = [[u8; WIDTH]; 8];
+/// The places of two cells each that a row has.
+pub(crate) const PLACES: usize = COLUMNS / 2;
+
+/// The colour numbers of a row of cells, line by line, the sixteen of a place together: an array is written by one store, where a copy
+/// between slices may look whether they overlap.
+pub(crate) type RowLines = [[[u8; 16]; PLACES]; 8];
 
 /// The colour numbers of two cells that stand side by side, line by line.
 type Twin = [[u8; 16]; 8];
-
-/// Writes sixteen numbers over those of two columns of cells in a line. They come by value: a copy can't overlap the line, so no test is
-/// made for that.
-#[inline(always)]
-fn put_sixteen(line: &mut [u8; WIDTH], place: usize, numbers: [u8; 16])
-    requires { place < 18 }
-    ensures { (x : ℕ) → x < tile.width → slice_index line.new x
-        ≡ (if x / 16 == place then slice_index numbers (x % 16) else slice_index line.old x) }
-{
-    let start = 16 * place;
-    line[start..start + 16].copy_from_slice(&numbers);
-}
-
-/// Writes two cells over two columns of a row of cells.
-#[inline(always)]
-fn put_twin(lines: &mut RowLines, place: usize, twin: &Twin)
-    requires { place < 18 }
-    ensures { (x y : ℕ) → x < tile.width → y < 8 → row_dot lines.new x y
-        ≡ (if x / 16 == place then row_dot twin.now (x % 16) y else row_dot lines.old x y) }
-{
-    for y in 0..8usize {
-        put_sixteen(&mut lines[y], place, twin[y]);
-    }
-}
 
 /// Two lines of two cells, of which each has its two lines one after the other.
 #[inline(always)]
@@ -67,8 +48,7 @@ fn joined(left: &[u8; 16], right: &[u8; 16]) -> ([u8; 16], [u8; 16])
 /// Two cells side by side.
 #[inline(always)]
 fn side_by_side(left: &TilePattern, right: &TilePattern) -> Twin
-    ensures { (x y : ℕ) → x < 16 → y < 8 → row_dot result x y
-        ≡ (if nat_lt x 8 then pattern_dot left.now x y else pattern_dot right.now (x - 8) y) }
+    ensures { (x y : ℕ) → x < 16 → y < 8 → twin_dot result x y ≡ beside left.now right.now x y }
 {
     let mut twin = [[0; 16]; 8];
     for pair in 0..4usize {
@@ -79,15 +59,34 @@ fn side_by_side(left: &TilePattern, right: &TilePattern) -> Twin
     twin
 }
 
+/// Writes sixteen numbers at a place of a line.
+#[inline(always)]
+fn put_sixteen(line: &mut [[u8; 16]; PLACES], place: usize, numbers: [u8; 16])
+    requires { place < 18 }
+    ensures { (n : ℕ) → slice_index_or line.new n [] ≡ (if n == place then numbers else slice_index_or line.old n []) }
+{
+    line[place] = numbers;
+}
+
+/// Writes two cells at a place.
+#[inline(always)]
+fn put_twin(lines: &mut RowLines, place: usize, twin: &Twin)
+    requires { place < 18 }
+    ensures { (x y : ℕ) → y < 8 → row_dot lines.new x y
+        ≡ (if x / 16 == place then twin_dot twin.now (x % 16) y else row_dot lines.old x y) }
+{
+    for y in 0..8usize {
+        put_sixteen(&mut lines[y], place, twin[y]);
+    }
+}
+
 /// Whether the two cells at a place have the tiles and the colours of the two to their left.
 #[inline(always)]
 fn are_like_left(tiles: &RowBytes, colours: &RowBytes, place: usize) -> bool
     requires { place < 18 }
     ensures place { result ≡ true → 1 ≤ place }
-    ensures tiles { result ≡ true → (k : ℕ) → k < 2 →
-        slice_index tiles.now (2 * place + k) ≡ slice_index tiles.now (2 * (place - 1) + k) }
-    ensures colours { result ≡ true → (k : ℕ) → k < 2 →
-        slice_index colours.now (2 * place + k) ≡ slice_index colours.now (2 * (place - 1) + k) }
+    ensures tiles { result ≡ true → AreLike tiles.now place }
+    ensures colours { result ≡ true → AreLike colours.now place }
 {
     let first = 2 * place;
     place > 0
@@ -97,52 +96,26 @@ fn are_like_left(tiles: &RowBytes, colours: &RowBytes, place: usize) -> bool
         && colours[first + 1] == colours[first - 1]
 }
 
-/// Whether a cell has the tile and the colour of the cell to its left.
+/// The second of the two cells at a place, which is often like the first.
 #[inline(always)]
-fn is_like_left(tiles: &RowBytes, colours: &RowBytes, column: usize) -> bool
-    requires { column < tiles_laws.columns }
-    ensures place { result ≡ true → 1 ≤ column }
-    ensures code { result ≡ true → slice_index tiles.now column ≡ slice_index tiles.now (column - 1) }
-    ensures colour { result ≡ true → slice_index colours.now column ≡ slice_index colours.now (column - 1) }
-{
-    column > 0 && tiles[column] == tiles[column - 1] && colours[column] == colours[column - 1]
-}
-
-/// A tile in a colour, which is often what was drawn last.
-#[inline(always)]
-fn next_pattern(
-    last: TilePattern,
-    graphics: &Graphics,
-    code: u8,
-    colour: u8,
-    is_last: bool,
-) -> TilePattern
-    requires { is_last ≡ true → last ≡ tile_pairs graphics.now colour code }
-    ensures { result ≡ tile_pairs graphics.now colour code }
-{
-    if is_last {
-        last
-    } else {
-        graphics.pattern(colour, code)
-    }
-}
-
-/// The cell in a column, of which the one to its left is at hand.
-#[inline(always)]
-fn next_cell(
-    left: TilePattern,
+fn second_cell(
+    first: TilePattern,
     graphics: &Graphics,
     tiles: &RowBytes,
     colours: &RowBytes,
-    column: usize,
+    place: usize,
 ) -> TilePattern
-    requires column { column < tiles_laws.columns }
-    requires left { 1 ≤ column →
-        left ≡ tile_pairs graphics.now (slice_index colours.now (column - 1)) (slice_index tiles.now (column - 1)) }
-    ensures { result ≡ tile_pairs graphics.now (slice_index colours.now column) (slice_index tiles.now column) }
+    requires place { place < 18 }
+    requires first { first ≡ tile_pairs graphics.now (slice_index colours.now (2 * place)) (slice_index tiles.now (2 * place)) }
+    ensures { result
+        ≡ tile_pairs graphics.now (slice_index colours.now (2 * place + 1)) (slice_index tiles.now (2 * place + 1)) }
 {
-    let is_like_left = is_like_left(tiles, colours, column);
-    next_pattern(left, graphics, tiles[column], colours[column], is_like_left)
+    let (here, next) = (2 * place, 2 * place + 1);
+    if tiles[next] == tiles[here] && colours[next] == colours[here] {
+        first
+    } else {
+        graphics.pattern(colours[next], tiles[next])
+    }
 }
 
 /// The two cells at a place of a row of cells, as tiles and colours say.
@@ -152,7 +125,7 @@ fn fresh_twin(graphics: &Graphics, tiles: &RowBytes, colours: &RowBytes, place: 
     ensures { IsTwin graphics.now tiles.now colours.now place result }
 {
     let first = graphics.pattern(colours[2 * place], tiles[2 * place]);
-    let second = next_cell(first, graphics, tiles, colours, 2 * place + 1);
+    let second = second_cell(first, graphics, tiles, colours, place);
     side_by_side(&first, &second)
 }
 
@@ -184,11 +157,10 @@ pub(crate) fn draw_all(
     tiles: &RowBytes,
     colours: &RowBytes,
 )
-    ensures { (x y : ℕ) → x < tile.width → y < 8 → row_dot lines.new x y
-        ≡ kept_dot graphics.now (shadow_from tiles.now colours.now) x y }
+    ensures { (x y : ℕ) → x < tile.width → y < 8 → row_dot lines.new x y ≡ kept_dot graphics.now (shadow_from tiles.now colours.now) x y }
 {
     let mut twin = [[0; 16]; 8];
-    for place in 0..COLUMNS / 2 {
+    for place in 0..PLACES {
         twin = next_twin(twin, graphics, tiles, colours, place);
         put_twin(lines, place, &twin);
     }
@@ -203,51 +175,10 @@ fn is_marked(mask: &[bool; COLUMNS], place: usize) -> bool
     mask[2 * place] || mask[2 * place + 1]
 }
 
-/// Whether the two cells to the left of a place were drawn, and the two there have their tiles and colours.
+/// Draws the two cells at a place where one of them is of a mask.
 #[inline(always)]
-fn are_like_drawn(
-    tiles: &RowBytes,
-    colours: &RowBytes,
-    mask: &[bool; COLUMNS],
-    place: usize,
-) -> bool
-    requires { place < 18 }
-    ensures place { result ≡ true → 1 ≤ place }
-    ensures marked { result ≡ true → has_marked mask.now (place - 1) ≡ true }
-    ensures tiles { result ≡ true → (k : ℕ) → k < 2 →
-        slice_index tiles.now (2 * place + k) ≡ slice_index tiles.now (2 * (place - 1) + k) }
-    ensures colours { result ≡ true → (k : ℕ) → k < 2 →
-        slice_index colours.now (2 * place + k) ≡ slice_index colours.now (2 * (place - 1) + k) }
-{
-    are_like_left(tiles, colours, place) && is_marked(mask, place - 1)
-}
-
-/// The two cells at a place, which are those to their left where these were drawn and are alike.
-#[inline(always)]
-fn marked_twin(
-    last: Twin,
-    graphics: &Graphics,
-    tiles: &RowBytes,
-    colours: &RowBytes,
-    mask: &[bool; COLUMNS],
-    place: usize,
-) -> Twin
-    requires place { place < 18 }
-    requires last { 1 ≤ place → has_marked mask.now (place - 1) ≡ true → IsTwin graphics.now tiles.now colours.now (place - 1) last }
-    ensures { IsTwin graphics.now tiles.now colours.now place result }
-{
-    if are_like_drawn(tiles, colours, mask, place) {
-        last
-    } else {
-        fresh_twin(graphics, tiles, colours, place)
-    }
-}
-
-/// Draws the two cells at a place where one of them is of a mask, beside what was drawn last.
-#[inline(always)]
-fn redraw_twin(
+fn redraw_place(
     lines: &mut RowLines,
-    twin: &mut Twin,
     graphics: &Graphics,
     tiles: &RowBytes,
     colours: &RowBytes,
@@ -255,20 +186,15 @@ fn redraw_twin(
     place: usize,
 )
     requires place { place < 18 }
-    requires last { 1 ≤ place → has_marked mask.now (place - 1) ≡ true →
-        IsTwin graphics.now tiles.now colours.now (place - 1) twin.old }
-    ensures twin { has_marked mask.now place ≡ true → IsTwin graphics.now tiles.now colours.now place twin.new }
-    ensures dots { (x y : ℕ) → x < tile.width → y < 8 → row_dot lines.new x y
-        ≡ (if has_marked mask.now place && (x / 16 == place)
-        then kept_dot graphics.now (shadow_from tiles.now colours.now) x y else row_dot lines.old x y) }
+    requires drawn { AreDrawn graphics.now tiles.now colours.now (has_marked mask.now) place lines.old }
+    ensures { AreDrawn graphics.now tiles.now colours.now (has_marked mask.now) (place + 1) lines.new }
 {
     if is_marked(mask, place) {
-        *twin = marked_twin(*twin, graphics, tiles, colours, mask, place);
-        put_twin(lines, place, twin);
+        put_twin(lines, place, &fresh_twin(graphics, tiles, colours, place));
     }
 }
 
-/// Draws the cells of a mask, two at a time: where one of two is of it, both are drawn.
+/// Draws the cells of a mask, two at a time: where one of two is of it, both are drawn. The others are drawn already.
 #[inline]
 pub(crate) fn redraw(
     lines: &mut RowLines,
@@ -277,13 +203,11 @@ pub(crate) fn redraw(
     colours: &RowBytes,
     mask: &[bool; COLUMNS],
 )
-    ensures { (x y : ℕ) → x < tile.width → y < 8 → row_dot lines.new x y
-        ≡ (if has_marked mask.now (x / 16)
-        then kept_dot graphics.now (shadow_from tiles.now colours.now) x y else row_dot lines.old x y) }
+    requires { AreDrawn graphics.now tiles.now colours.now (has_marked mask.now) 0 lines.old }
+    ensures { (x y : ℕ) → x < tile.width → y < 8 → row_dot lines.new x y ≡ kept_dot graphics.now (shadow_from tiles.now colours.now) x y }
 {
-    let mut twin = [[0; 16]; 8];
-    for place in 0..COLUMNS / 2 {
-        redraw_twin(lines, &mut twin, graphics, tiles, colours, mask, place);
+    for place in 0..PLACES {
+        redraw_place(lines, graphics, tiles, colours, mask, place);
     }
 }
 
@@ -308,16 +232,6 @@ pub(crate) fn marked(mask: &[bool; COLUMNS]) -> u32
     count
 }
 
-/// Copies a third of a line: a copy of so few bytes is no call.
-#[inline(always)]
-fn lay_third(line: &[u8; WIDTH], start: usize, out: &mut [u8; WIDTH])
-    requires { start ≤ 192 }
-    ensures { (x : ℕ) → x < tile.width → slice_index out.new x
-        ≡ (if nat_le start x && nat_lt x (start + 96) then slice_index line.now x else slice_index out.old x) }
-{
-    out[start..start + 96].copy_from_slice(&line[start..start + 96]);
-}
-
 /// Fills a line with line y, 0 to 7, of a row of cells.
 #[inline]
 pub(crate) fn lay_line(lines: &RowLines, y: u8, out: &mut [u8; WIDTH])
@@ -325,7 +239,7 @@ pub(crate) fn lay_line(lines: &RowLines, y: u8, out: &mut [u8; WIDTH])
     ensures { out.new ≡ tabulate tile.width (λ x. row_dot lines.now x y) }
 {
     let line = &lines[y as usize];
-    lay_third(line, 0, out);
-    lay_third(line, 96, out);
-    lay_third(line, 192, out);
+    for place in 0..PLACES {
+        put_numbers(out, 16 * place, &line[place]);
+    }
 }

@@ -8,10 +8,10 @@ use Rattle.pac_picture.proofs.layer.draw_differing.Goals as goal
 pub returns-then-shadow-clause-count : goal.returns-then-shadow-clause-count
 returns-then-shadow-clause-count c = sym (row-counts c.args.shadow.now c.args.tiles.now c.args.colours.now c.if-shadow.true)
 
-pub returns-clause-drawn : goal.returns-clause-drawn
-returns-clause-drawn c = λ fresh.
+pub redraw-requires : goal.redraw-requires
+redraw-requires c =
     cells-kept c.args.graphics.now c.args.shadow.now c.args.tiles.now c.args.colours.now c.differing-mask.result c.args.lines.now
-    c.redraw.new.lines c.requires.drawn c.if-shadow.false c.differing-mask.ensures c.redraw.ensures
+    c.requires.drawn c.if-shadow.false c.differing-mask.ensures
 
 pub returns-clause-count : goal.returns-clause-count
 unfolding differing_cells

@@ -4,5 +4,5 @@ use Rattle.pac_picture.proofs.layer.either.Given as goal
 abbrev pub invariant-loop-k : goal.invariant-loop-k
 invariant-loop-k l = record {
   long : length l.any ≡ 36;
-  filled : (n : ℕ) → n < l.k → get_or l.any n false ≡ (l.all || get_or l.one n false || get_or l.other n false);
+  filled : (n : ℕ) → n < l.k → get_or l.any n false ≡ (get_or l.one n false || get_or l.other n false);
 }

@@ -1,12 +1,17 @@
-use Rattle.std.proofs.Common.{[], get_or, rules}
+use Rattle.std.proofs.Common.{[], get_or, rules, arith}
 use Rattle.pac_num.proofs.Tabulated.{tabulate-is}
 use Rattle.pac_picture.specs.LayerProofs.{row_dot}
-use Rattle.pac_picture.proofs.Strips.{thirds}
+use Rattle.pac_picture.proofs.Strips.{line-more}
 use Rattle.pac_picture.proofs.strip.lay_line.Goals as goal
+
+pub loop-place-preserved : goal.loop-place-preserved
+loop-place-preserved c = record {
+  long = search rules;
+  done = line-more (get_or c.args.lines.now c.args.y []) c.loop-place.out c.put_numbers.new.line c.loop-place.place c.loop-place-test.true
+      c.put_numbers.ensures c.loop-place.invariant.done;
+}
 
 pub returns : goal.returns
 returns c =
-    tabulate-is c.lay_third-3.new.out 288 (λ x. row_dot c.args.lines.now x c.args.y) 0 (search rules)
-    (λ x across.
-    thirds (get_or c.args.lines.now c.args.y []) c.args.out.now c.lay_third.new.out c.lay_third-2.new.out c.lay_third-3.new.out x across
-    (c.lay_third.ensures x across) (c.lay_third-2.ensures x across) (c.lay_third-3.ensures x across))
+    tabulate-is c.loop-place.out 288 (λ x. row_dot c.args.lines.now x c.args.y) 0 c.loop-place.invariant.long
+    (λ x across. c.loop-place.invariant.done x (omega (arith, across, c.loop-place-test.false)))
