@@ -23,3 +23,4 @@ pub mod HostCarried
 pub mod HostKeeps
 pub mod Muted
 pub mod MemoryAlone
+pub mod TheLaws

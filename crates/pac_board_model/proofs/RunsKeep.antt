@@ -127,43 +127,33 @@ module _ {Board : Type 0} (ask : Questions Board) (Told : ℕ → List Output �
   step-told w (Goes now outputs kind) next told = next
   step-told w (Ends stop) next told = told
 
-  onward-told : (held : ℕ → ℕ) (w : Walk Board) (stop : Option Stop) (late : Bool) → WalkTold w
-      → WalkTold (onward_if (play_step ask held) w stop late)
-  unfolding WalkTold
-  onward-told held w stop late told = search (rules, cpu-step-told, played-told, step-told)
+  module _ (next : Moment Board → Next Board) (limit : ℕ)
+      (kept : (now : Moment Board) (given : List Output) → Told now.time given now.board → NextTold given (next now)) where
+    onward-told : (w : Walk Board) (stop : Option Stop) (late : Bool) → WalkTold w → WalkTold (onward_if next w stop late)
+    unfolding WalkTold
+    onward-told w stop late told = search (rules, kept, step-told)
 
-  walk-kept : (held : ℕ → ℕ) (limit : ℕ) (from : Moment Board) (n : ℕ) → Told from.time [] from.board
-      → WalkTold (walk (play_step ask held) limit from n)
-  unfolding WalkTold
-  walk-kept held limit from zero told = told
-  walk-kept held limit from (suc n) told =
-      let w = walk (play_step ask held) limit from n in
-      onward-told held w w.stop (nat_le limit w.now.time) (walk-kept held limit from n told)
+    walk-kept : (from : Moment Board) (n : ℕ) → Told from.time [] from.board → WalkTold (walk next limit from n)
+    unfolding WalkTold
+    walk-kept from zero told = told
+    walk-kept from (suc n) told =
+        let w = walk next limit from n in onward-told w w.stop (nat_le limit w.now.time) (walk-kept from n told)
 
   -- so a walk keeps it, from any moment on and at each index
   pub walk-told : (held : ℕ → ℕ) (limit : ℕ) (from : Moment Board) (n : ℕ) → Told from.time [] from.board
       → let w = walk (play_step ask held) limit from n in
       Told w.now.time w.outputs w.now.board
   unfolding WalkTold
-  walk-told held limit from n told = walk-kept held limit from n told
+  walk-told held limit from n told =
+      walk-kept (play_step ask held) limit
+      (λ now given told. played-told held now.time given (step ask now) (cpu-step-told now given _ told)) from n told
 
   -- a walk without a script keeps it too
-  plain-onward-told : (w : Walk Board) (stop : Option Stop) (late : Bool) → WalkTold w → WalkTold (onward_if (step ask) w stop late)
-  unfolding WalkTold
-  plain-onward-told w stop late told = search (rules, cpu-step-told, step-told)
-
-  plain-walk-kept : (limit : ℕ) (from : Moment Board) (n : ℕ) → Told from.time [] from.board → WalkTold (walk (step ask) limit from n)
-  unfolding WalkTold
-  plain-walk-kept limit from zero told = told
-  plain-walk-kept limit from (suc n) told =
-      let w = walk (step ask) limit from n in
-      plain-onward-told w w.stop (nat_le limit w.now.time) (plain-walk-kept limit from n told)
-
   pub plain-walk-told : (limit : ℕ) (from : Moment Board) (n : ℕ) → Told from.time [] from.board
       → let w = walk (step ask) limit from n in
       Told w.now.time w.outputs w.now.board
   unfolding WalkTold
-  plain-walk-told limit from n told = plain-walk-kept limit from n told
+  plain-walk-told limit from n told = walk-kept (step ask) limit (λ now given told. cpu-step-told now given _ told) from n told
 
   -- and so do a run and a play that is taken up
   pub run-told : (play : Play) (board : Board) (index : ℕ) → Told 0 [] board

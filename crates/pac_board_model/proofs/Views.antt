@@ -6,8 +6,7 @@ use Rattle.pac_map.specs.declared.bus_table.BusPlace.TheVariants.{Tile, Colour, 
 use Rattle.pac_map.specs.Place.{read_place, ram_size, coordinates_size, registers_size}
 use Rattle.pac_map.specs.PlaceProofs.{IsPlaceInRange}
 use Rattle.pac_map.specs.Lookups.{answer}
-use Rattle.pac_map.specs.Entry.{Entry, Write, Vector, Blank, Accept, Reset, Hold, view_after_write}
-use Rattle.pac_map.specs.Latched.{Latched, latched_after_vector, latched_after_blank, latched_after_accept, latched_after_reset}
+use Rattle.pac_map.specs.Entry.{Entry, Write, Hold, view_after_write}
 use Rattle.pac_map.specs.View.{View, IsWellFormed, kept_nibble}
 use Rattle.pac_map.specs.Contents.{lookups_of, read_of}
 use Rattle.pac_map.proofs.WellFormed.{view-after-well-formed}
@@ -20,52 +19,10 @@ view-of-well-formed start [] sized = sized
 view-of-well-formed start (entry ∷ older) sized =
     view-after-well-formed (view_after_entries start older) entry (view-of-well-formed start older sized)
 
--- One part of the view that is a list: the test for a place in it, what a cell holds of a byte, what a write leaves, and
--- that nothing else than a write changes it.
-module _ (part : View → List ℕ) (here : ℕ → BusPlace → Bool) (holds : ℕ → ℕ → ℕ)
-    (write : (view : View) (place : BusPlace) (byte cell : ℕ) → cell < length (part view)
-    → slice_index (part (view_after_write view place byte)) cell ≡ cond (here cell place) (holds cell byte) (slice_index (part view) cell))
-    (apart : (view : View) (inputs : ℕ) (latched : Latched) →
-    part (record view { held = inputs; latched = latched }) ≡ part view) where
-  decided : (place : Bool) (byte : ℕ) (older : Option ℕ) (first cell : ℕ)
-      → cond place (holds cell byte) (holds cell (unwrap_or older first)) ≡ holds cell (unwrap_or (cond place (Some byte) older) first)
-  decided place byte older first cell = search rules
-
-  module _ (start : View) (cell : ℕ) (first : slice_index (part start) cell ≡ holds cell (slice_index (part start) cell))
-      (inside : (older : List Entry) → cell < length (part (view_after_entries start older))) where
-    abbrev Answers : List Entry → Type 0
-    Answers entries =
-        slice_index (part (view_after_entries start entries)) cell
-        ≡ holds cell (unwrap_or (last_written (here cell) entries) (slice_index (part start) cell))
-
-    -- entries that leave the part as it is
-    left : (older : List Entry) (inputs : ℕ) (latched : Latched) → Answers older
-        → slice_index (part (record (view_after_entries start older) { held = inputs; latched = latched })) cell
-        ≡ holds cell (unwrap_or (last_written (here cell) older) (slice_index (part start) cell))
-    left older inputs latched before =
-        ap (λ cells. slice_index cells cell) (apart (view_after_entries start older) inputs latched) ∙ before
-
-    cell-viewed : (entries : List Entry) → Answers entries
-    cell-viewed [] = first
-    cell-viewed (Write place byte ∷ older) =
-        write (view_after_entries start older) place byte cell (inside older)
-        ∙ ap (cond (here cell place) (holds cell byte)) (cell-viewed older)
-        ∙ decided (here cell place) byte (last_written (here cell) older) (slice_index (part start) cell) cell
-    cell-viewed (Hold mask ∷ older) = left older mask (view_after_entries start older).latched (cell-viewed older)
-    cell-viewed (Vector byte ∷ older) =
-        left older (view_after_entries start older).held (latched_after_vector (view_after_entries start older).latched byte)
-        (cell-viewed older)
-    cell-viewed (Blank frame ∷ older) =
-        left older (view_after_entries start older).held (latched_after_blank (view_after_entries start older).latched) (cell-viewed older)
-    cell-viewed (Accept ∷ older) =
-        left older (view_after_entries start older).held (latched_after_accept (view_after_entries start older).latched) (cell-viewed older)
-    cell-viewed (Reset ∷ older) =
-        left older (view_after_entries start older).held (latched_after_reset (view_after_entries start older).latched) (cell-viewed older)
-    cell-viewed (entry ∷ older) = cell-viewed older
-
--- RAM and coordinates hold the whole byte
-abbrev whole : ℕ → ℕ → ℕ
-whole cell byte = byte
+-- what a write decides comes before what older ones do
+decided : (holds : ℕ → ℕ) (here : Bool) (byte : ℕ) (older : Option ℕ) (first : ℕ)
+    → cond here (holds byte) (holds (unwrap_or older first)) ≡ holds (unwrap_or (cond here (Some byte) older) first)
+decided holds here byte older first = search rules
 
 tile-written : (view : View) (place : BusPlace) (byte cell : ℕ) → cell < length view.tile
     → slice_index (view_after_write view place byte).tile cell ≡ cond (is_same_place (Tile cell) place) byte (slice_index view.tile cell)
@@ -92,36 +49,58 @@ register-written view place byte register lt = search rules
 
 pub tile-viewed : (start : View) (entries : List Entry) (cell : ℕ) → IsWellFormed start → cell < ram_size
     → slice_index (view_after_entries start entries).tile cell ≡ tile_at start entries cell
-tile-viewed start entries cell well lt =
-    cell-viewed (λ view. view.tile) (λ place. is_same_place (Tile place)) whole tile-written (λ view inputs latched. refl) start cell refl
-    (λ older. let e = (view-of-well-formed start older well).tile in omega arith) entries
+tile-viewed start [] cell well lt = refl
+tile-viewed start (Write to byte ∷ older) cell well lt =
+    let sized = (view-of-well-formed start older well).tile in
+    tile-written (view_after_entries start older) to byte cell (omega arith)
+    ∙ ap (cond (is_same_place (Tile cell) to) byte) (tile-viewed start older cell well lt)
+    ∙ decided (λ byte. byte) (is_same_place (Tile cell) to) byte (last_written (is_same_place (Tile cell)) older)
+    (slice_index start.tile cell)
+tile-viewed start (entry ∷ older) cell well lt = tile-viewed start older cell well lt
 
 pub colour-viewed : (start : View) (entries : List Entry) (cell : ℕ) → IsWellFormed start → cell < ram_size
     → slice_index (view_after_entries start entries).colour cell ≡ colour_at start entries cell
-colour-viewed start entries cell well lt =
-    cell-viewed (λ view. view.colour) (λ place. is_same_place (Colour place)) whole colour-written (λ view inputs latched. refl)
-    start cell refl
-    (λ older. let e = (view-of-well-formed start older well).colour in omega arith) entries
+colour-viewed start [] cell well lt = refl
+colour-viewed start (Write to byte ∷ older) cell well lt =
+    let sized = (view-of-well-formed start older well).colour in
+    colour-written (view_after_entries start older) to byte cell (omega arith)
+    ∙ ap (cond (is_same_place (Colour cell) to) byte) (colour-viewed start older cell well lt)
+    ∙ decided (λ byte. byte) (is_same_place (Colour cell) to) byte (last_written (is_same_place (Colour cell)) older)
+    (slice_index start.colour cell)
+colour-viewed start (entry ∷ older) cell well lt = colour-viewed start older cell well lt
 
 pub work-viewed : (start : View) (entries : List Entry) (cell : ℕ) → IsWellFormed start → cell < ram_size
     → slice_index (view_after_entries start entries).work cell ≡ work_at start entries cell
-work-viewed start entries cell well lt =
-    cell-viewed (λ view. view.work) (λ place. is_same_place (Work place)) whole work-written (λ view inputs latched. refl) start cell refl
-    (λ older. let e = (view-of-well-formed start older well).work in omega arith) entries
+work-viewed start [] cell well lt = refl
+work-viewed start (Write to byte ∷ older) cell well lt =
+    let sized = (view-of-well-formed start older well).work in
+    work-written (view_after_entries start older) to byte cell (omega arith)
+    ∙ ap (cond (is_same_place (Work cell) to) byte) (work-viewed start older cell well lt)
+    ∙ decided (λ byte. byte) (is_same_place (Work cell) to) byte (last_written (is_same_place (Work cell)) older)
+    (slice_index start.work cell)
+work-viewed start (entry ∷ older) cell well lt = work-viewed start older cell well lt
 
 pub coordinate-viewed : (start : View) (entries : List Entry) (place : ℕ) → IsWellFormed start → place < coordinates_size
     → slice_index (view_after_entries start entries).coordinates place ≡ coordinate_at start entries place
-coordinate-viewed start entries place well lt =
-    cell-viewed (λ view. view.coordinates) (λ place. is_same_place (Coordinate place)) whole coordinate-written
-    (λ view inputs latched. refl) start place refl
-    (λ older. let e = (view-of-well-formed start older well).coordinates in omega arith) entries
+coordinate-viewed start [] place well lt = refl
+coordinate-viewed start (Write to byte ∷ older) place well lt =
+    let sized = (view-of-well-formed start older well).coordinates in
+    coordinate-written (view_after_entries start older) to byte place (omega arith)
+    ∙ ap (cond (is_same_place (Coordinate place) to) byte) (coordinate-viewed start older place well lt)
+    ∙ decided (λ byte. byte) (is_same_place (Coordinate place) to) byte (last_written (is_same_place (Coordinate place)) older)
+    (slice_index start.coordinates place)
+coordinate-viewed start (entry ∷ older) place well lt = coordinate-viewed start older place well lt
 
 pub register-viewed : (start : View) (entries : List Entry) (register : ℕ) → IsWellFormed start → register < registers_size
     → slice_index (view_after_entries start entries).registers register ≡ register_at start entries register
-register-viewed start entries register well lt =
-    cell-viewed (λ view. view.registers) (λ place. is_same_place (Wave place)) kept_nibble register-written
-    (λ view inputs latched. refl) start register
-    (sym (well.nibbles register)) (λ older. let e = (view-of-well-formed start older well).registers in omega arith) entries
+register-viewed start [] register well lt = sym (well.nibbles register)
+register-viewed start (Write to byte ∷ older) register well lt =
+    let sized = (view-of-well-formed start older well).registers in
+    register-written (view_after_entries start older) to byte register (omega arith)
+    ∙ ap (cond (is_same_place (Wave register) to) (kept_nibble register byte)) (register-viewed start older register well lt)
+    ∙ decided (kept_nibble register) (is_same_place (Wave register) to) byte (last_written (is_same_place (Wave register)) older)
+    (slice_index start.registers register)
+register-viewed start (entry ∷ older) register well lt = register-viewed start older register well lt
 
 written-held : (view : View) (place : BusPlace) (byte : ℕ) → (view_after_write view place byte).held ≡ view.held
 written-held view place byte = search rules

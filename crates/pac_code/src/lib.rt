@@ -11,11 +11,13 @@ pub use encoder::{Code, encode};
 pub use pac_table::Instr;
 
 /// Bytes whose prefix is the code of an instruction hold that instruction.
+#[tactic(auto, using(crate::proofs::RoundTrip::laws))]
 pub fn decodes_prefix()
     ensures { DecodesPrefix }
 {}
 
 /// An instruction's code gives it back, whatever follows.
+#[tactic(auto, using(crate::proofs::RoundTrip::laws))]
 pub fn decodes_back()
     ensures { DecodesBack }
 {}

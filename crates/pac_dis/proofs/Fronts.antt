@@ -3,6 +3,7 @@ use Rattle.std.proofs.lemmas.Grind.{common_steps}
 use Rattle.std.proofs.Common.{◌≡◌, ℕ, ◌≤◌, ◌<◌, Some, None, List, length, take, sym, ◌∙◌, ap, arith, rules}
 use Rattle.std.specs.Prelude.{option_and_then}
 use Rattle.std.proofs.lemmas.List.{length-take}
+use Rattle.pac_table.proofs.Lengths.{length-code}
 use Rattle.pac_table.specs.Instructions.{Instruction, code, decoded_instruction}
 use Rattle.pac_code.specs.Codes.{Begins}
 use Rattle.pac_dis.specs.Front.{first_four, fitting_instruction, front_instruction}
@@ -38,3 +39,6 @@ front-cut bytes i is beyond = search rules
 pub front-none : (bytes : List ℕ) → decoded_instruction (first_four bytes) ≡ None → None ≡ front_instruction bytes
 unfolding front_instruction
 front-none bytes is = sym (ap (option_and_then (fitting_instruction (length bytes))) is)
+
+-- what `front` cites
+pub ruleset fronts = (front-found, front-cut, front-none, first_four-begins, begins-first_four, begins-within, length-code)

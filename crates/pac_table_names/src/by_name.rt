@@ -191,6 +191,7 @@ static LETTERS: [u8; 27] = [
 ];
 
 /// The names.
+#[tactic(auto, unfolding(crate::specs::WordsProofs::word_list, crate::specs::Words::operation_names, crate::specs::ByName::rows_named, crate::specs::ByName::family_value, pac_table::specs::Table::table))]
 fn words() -> &'static [Word]
     ensures { result.now ≡ word_list }
 {
@@ -198,6 +199,7 @@ fn words() -> &'static [Word]
 }
 
 /// The rows of all names.
+#[tactic(auto, unfolding(crate::specs::WordsProofs::row_list, crate::specs::Words::operation_names, crate::specs::ByName::rows_named, pac_table::specs::Table::table))]
 fn row_list() -> &'static [u8]
     ensures { result.now ≡ row_list }
 {
@@ -205,6 +207,7 @@ fn row_list() -> &'static [u8]
 }
 
 /// Where the names with each first letter begin.
+#[tactic(auto, unfolding(crate::specs::WordsProofs::letter_list, crate::specs::Words::operation_names))]
 fn letter_list() -> &'static [u8]
     ensures { result.now ≡ letter_list }
 {

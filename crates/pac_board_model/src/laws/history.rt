@@ -1,4 +1,5 @@
 //! Laws of what a history and its view tell.
+#![tactic(auto, using(crate::proofs::TheLaws::history))]
 
 ghost use Rattle.pac_board_model.specs.Laws.{ViewAnswers, ViewTells, StepsAgree, HostsAgree, RunsAgree};
 

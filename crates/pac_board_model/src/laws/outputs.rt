@@ -1,4 +1,5 @@
 //! Laws of what a run gives out: samples, pictures and their lines.
+#![tactic(auto, using(crate::proofs::TheLaws::outputs))]
 
 ghost use Rattle.pac_board_model.specs.Laws.{OutputsAreOfTheHistory, OutputsAreTimed, FramesHaveTheirSamples, LinesHaveTheirMoments};
 ghost use Rattle.pac_board_model.specs.Laws.{LinesHaveNoOtherMoments, HostsAreLineExact, PicturesAreLineExact};

@@ -1,4 +1,5 @@
 //! Laws of plays that are taken up at any moment.
+#![tactic(auto, using(crate::proofs::TheLaws::resumed))]
 
 ghost use Rattle.pac_board_model.specs.Resumed.{RunsBegin, ResumedRunsEnd, RunsAreContinued, PlaysJoin, StoppedRunsStay};
 ghost use Rattle.pac_board_model.specs.Resumed.{ResumedRunsAgree, ResumedOutputsAreOfTheHistory, ResumedRunsAreTimed};

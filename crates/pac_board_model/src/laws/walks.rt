@@ -1,4 +1,5 @@
 //! Laws of steps, walks and runs.
+#![tactic(auto, using(crate::proofs::TheLaws::walks))]
 
 ghost use Rattle.pac_board_model.specs.Laws.{StepsAreTimely, RunsEnd, RunsAreJoined, WalksEnd, WalksJoin, WalksGoOn, WalksAreTimed, RunsGoByFrames};
 ghost use Rattle.pac_board_model.specs.MemoryLaws.{MemoryDecides};
