@@ -3,9 +3,11 @@
 ghost use Rattle.std.specs.Prelude.{◌≡◌, ◌+ℤ◌, ◌-ℤ◌, pos};
 ghost use Rattle.pac_alu.specs.FlagsProofs.{IsCarry};
 ghost use Rattle.pac_alu.specs.Flags.{overflows};
-ghost use Rattle.pac_alu.specs.Arithmetic.{sum_flags, sum_of, difference_flags, difference_of, logic_of, field_operation, arithmetic_of, increment_of};
+ghost use Rattle.pac_alu.specs.Arithmetic.{sum_flags, sum_of, difference_flags, difference_of};
+ghost use Rattle.pac_alu.specs.Arithmetic.{logic_of, field_operation, arithmetic_of, increment_of};
 ghost use Rattle.pac_alu.specs.Arithmetic.{decrement_of, negation_of, complement_of, decimal_of};
-ghost use Rattle.pac_alu.specs.Arithmetic.{corrects_low, corrects_high, adjusted_of, adjusted_half_carry};
+ghost use Rattle.pac_alu.specs.Arithmetic.{corrects_low, corrects_high, adjusted_of};
+ghost use Rattle.pac_alu.specs.Arithmetic.{adjusted_half_carry};
 ghost use Rattle.pac_num.specs.Numbers.{signed_of_byte};
 
 use crate::flag_byte::{Flags, parity_flags, weight};

@@ -1,7 +1,8 @@
 //! F as a byte and as six flags, the conditions that ask it, SCF and CCF.
 
 ghost use Rattle.std.specs.Prelude.{◌≡◌};
-ghost use Rattle.pac_alu.specs.Flags.{flags_of, flag_byte_of, weight_if, parity_flags_of, field_condition, is_met};
+ghost use Rattle.pac_alu.specs.Flags.{flags_of, flag_byte_of, weight_if, parity_flags_of};
+ghost use Rattle.pac_alu.specs.Flags.{field_condition, is_met};
 ghost use Rattle.pac_alu.specs.Arithmetic.{carry_set_of, carry_flipped_of};
 
 /// The six flags of F that have a meaning (UM0080, "Z80 Status Indicator Flags").

@@ -2,7 +2,8 @@
 
 ghost use Rattle.std.specs.Prelude.{◌≡◌};
 ghost use Rattle.pac_alu.specs.FlagsProofs.{IsCarry};
-ghost use Rattle.pac_alu.specs.Rotate.{field_shift, shifted_of, leaving_bit, shift_of, accumulator_rotation_of};
+ghost use Rattle.pac_alu.specs.Rotate.{field_shift, shifted_of, leaving_bit, shift_of};
+ghost use Rattle.pac_alu.specs.Rotate.{accumulator_rotation_of};
 ghost use Rattle.pac_alu.specs.Rotate.{left_digits_of, right_digits_of};
 
 use crate::bytes::ByteResult;

@@ -1,7 +1,8 @@
 //! The flags of loads of I and R, block transfers, searches, and input and output.
 
 ghost use Rattle.std.specs.Prelude.{◌≡◌};
-ghost use Rattle.pac_alu.specs.Transfer.{input_flags_of, control_load_flags_of, copy_flags_of, search_flags_of, port_flags_of};
+ghost use Rattle.pac_alu.specs.Transfer.{input_flags_of, control_load_flags_of, copy_flags_of};
+ghost use Rattle.pac_alu.specs.Transfer.{search_flags_of, port_flags_of};
 
 use crate::bytes::difference_flags;
 use crate::flag_byte::{Flags, parity_flags};

@@ -2,7 +2,8 @@
 
 ghost use Rattle.std.specs.Prelude.{◌≡◌, ◌+ℤ◌, ◌-ℤ◌, pos};
 ghost use Rattle.pac_alu.specs.Flags.{overflows_word};
-ghost use Rattle.pac_alu.specs.Words.{signed_word, word_sum_of, word_sum_with_carry_of, word_difference_with_carry_of};
+ghost use Rattle.pac_alu.specs.Words.{signed_word, word_sum_of, word_sum_with_carry_of};
+ghost use Rattle.pac_alu.specs.Words.{word_difference_with_carry_of};
 ghost use Rattle.pac_alu.specs.Words.{word_increment_of, word_decrement_of};
 
 use crate::flag_byte::Flags;

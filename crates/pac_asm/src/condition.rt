@@ -1,6 +1,7 @@
 //! The open IFs of a source.
 
-ghost use Rattle.std.specs.Prelude.{◌≡◌, ◌<◌, [], ◌∷◌, length, nat_lt, MatchOption, MatchResult, Ok, Err};
+ghost use Rattle.std.specs.Prelude.{◌≡◌, ◌<◌, [], ◌∷◌, length, nat_lt, MatchOption, MatchResult};
+ghost use Rattle.std.specs.Prelude.{Ok, Err};
 ghost use Rattle.pac_asm.specs.Conditions as spec;
 
 use crate::fault::AsmCode;
@@ -91,7 +92,8 @@ impl Conditions {
 
     /// Takes the innermost open IF away.
     fn pop(&mut self) -> Option<IfState>
-        ensures innermost { MatchOption result ((self.old ≡ []) × (self.new ≡ [])) (λ condition. self.old ≡ condition ∷ self.new) }
+        ensures innermost { MatchOption result ((self.old ≡ []) × (self.new ≡ []))
+            (λ condition. self.old ≡ condition ∷ self.new) }
         ensures room { length self.new < spec.most_open_ifs }
     {
         self.open.pop()
@@ -109,7 +111,8 @@ impl Conditions {
 
     /// Takes an ELSE that is judged: the lines after it count where those before it didn't.
     pub(crate) fn after_else(&mut self) -> Result<(), AsmCode>
-        ensures { MatchResult result (λ _. spec.after_else self.old ≡ Ok self.new) (λ code. spec.after_else self.old ≡ Err code) }
+        ensures { MatchResult result (λ _. spec.after_else self.old ≡ Ok self.new)
+            (λ code. spec.after_else self.old ≡ Err code) }
     {
         match self.pop() {
             Some(IfState::Met) => self.push(IfState::Over),
@@ -121,7 +124,8 @@ impl Conditions {
 
     /// Takes an ENDIF that is judged: the innermost IF is closed.
     pub(crate) fn after_end(&mut self) -> Result<(), AsmCode>
-        ensures { MatchResult result (λ _. spec.after_end self.old ≡ Ok self.new) (λ code. spec.after_end self.old ≡ Err code) }
+        ensures { MatchResult result (λ _. spec.after_end self.old ≡ Ok self.new)
+            (λ code. spec.after_end self.old ≡ Err code) }
     {
         match self.pop() {
             Some(_) => Ok(()),

@@ -1,6 +1,7 @@
 //! Where the bytes of the lines stand.
 
-ghost use Rattle.std.specs.Prelude.{◌≡◌, ◌+◌, ◌≤◌, [], ◌∷◌, ◌++◌, true, take, drop, replicate, length, IfOk, OnOk};
+ghost use Rattle.std.specs.Prelude.{◌≡◌, ◌+◌, ◌≤◌, [], ◌∷◌, ◌++◌, true, take, drop, replicate};
+ghost use Rattle.std.specs.Prelude.{length, IfOk, OnOk};
 ghost use Rattle.std.specs.List.{list_any};
 ghost use Rattle.pac_asm_program.specs.Programs.{rom_size};
 ghost use Rattle.pac_asm.specs.Layouts.{ArePlacesApart, IsFreePlace, cells_below};

@@ -56,7 +56,8 @@ fn take_line(
     number: u32,
     is_open: bool,
 ) -> Result<(), AsmError>
-    ensures exact { AssemblyBecomes result (result_of_line number (unless_left_open is_open (after_text standing.old line.now)))
+    ensures exact { AssemblyBecomes result (result_of_line number
+        (unless_left_open is_open (after_text standing.old line.now)))
         standing.new }
     ensures closed { OnOk result (is_open ≡ false) }
 {

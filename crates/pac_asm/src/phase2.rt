@@ -1,6 +1,7 @@
 //! The second phase: what each placed line puts into the program.
 
-ghost use Rattle.std.specs.Prelude.{◌≡◌, ◌≤◌, [], ◌∷◌, length, flat_map, All, IfOk, MatchOption, MatchResult, Ok};
+ghost use Rattle.std.specs.Prelude.{◌≡◌, ◌≤◌, [], ◌∷◌, length, flat_map, All, IfOk, MatchOption};
+ghost use Rattle.std.specs.Prelude.{MatchResult, Ok};
 ghost use Rattle.std.specs.Str.Lines.{lines};
 ghost use Rattle.pac_asm_program.specs.Programs.{items_in};
 ghost use Rattle.pac_asm_program.specs.Rom as rom;
@@ -31,7 +32,8 @@ pub(crate) fn fill_in(
     requires fit { AllFit (lines source.now) places.now }
     ensures exact { MatchResult result
         (λ filled. spec.phase2 symbols.now 1 [] (lines source.now) places.now ≡ Ok filled.items)
-        (λ error. AssemblyFails error (spec.phase2 symbols.now 1 [] (lines source.now) places.now)) }
+        (λ error. AssemblyFails error (spec.phase2 symbols.now 1 []
+        (lines source.now) places.now)) }
     ensures items { IfOk result (λ filled. (rom_laws.AreApart (flat_map items_in filled.items))
         × All rom_laws.IsFit (flat_map items_in filled.items)) }
 {

@@ -1,6 +1,7 @@
 //! What the lines above leave to a line in the first phase.
 
-ghost use Rattle.std.specs.Prelude.{◌≡◌, ◌<◌, ◌≤◌, [], ◌∷◌, ◌++◌, length, nat_lt, None, option_map, IfOk, OnOk};
+ghost use Rattle.std.specs.Prelude.{◌≡◌, ◌<◌, ◌≤◌, [], ◌∷◌, ◌++◌, length, nat_lt, None, option_map};
+ghost use Rattle.std.specs.Prelude.{IfOk, OnOk};
 ghost use Rattle.pac_asm_program.specs.Programs.{rom_size};
 ghost use Rattle.pac_asm_line.specs.Statements as says;
 ghost use Rattle.pac_asm_line.specs.Views.{expression_tree};
@@ -91,7 +92,8 @@ impl Standing {
 
     /// Whether no line above defines a label.
     pub(crate) fn is_new(&self, label: Option<&[u8]>) -> bool
-        ensures { result ≡ above.is_new self.now.symbols (option_map (λ name. name.now) label.entry) }
+        ensures { result ≡ above.is_new self.now.symbols
+            (option_map (λ name. name.now) label.entry) }
     {
         match label {
             None => true,
@@ -107,7 +109,8 @@ impl Standing {
         number: i32,
     ) -> Result<(), AllocError>
         ensures { OnOk result (self.new ≡ record self.old {
-          symbols = above.with_label self.old.symbols (option_map (λ name. name.now) label.entry) number;
+          symbols = above.with_label self.old.symbols
+              (option_map (λ name. name.now) label.entry) number;
         }) }
     {
         if let Some(name) = label {
@@ -119,7 +122,8 @@ impl Standing {
     /// Adds what becomes of a line that has no bytes.
     pub(crate) fn add(&mut self, place: LineLayout) -> Result<(), AllocError>
         requires { IsFreePlace self.old.places place }
-        ensures { OnOk result (self.new ≡ record self.old { places = self.old.places ++ place ∷ [] }) }
+        ensures { OnOk result (self.new ≡ record self.old
+            { places = self.old.places ++ place ∷ [] }) }
     {
         self.layout.push(place)?;
         Ok(())
@@ -188,7 +192,8 @@ impl Standing {
 
     /// Takes an ENDIF that is judged.
     pub(crate) fn after_end(&mut self) -> Result<(), LineError>
-        ensures { LineBecomes result (spec.after_statement self.old None says.end_condition) self.new }
+        ensures { LineBecomes result (spec.after_statement self.old None says.end_condition)
+            self.new }
     {
         self.conditions.after_end()?;
         self.layout.push(LineLayout::Blank)?;

@@ -59,7 +59,8 @@ impl Standing {
         label: Option<&[u8]>,
         statement: &Statement<'_, '_>,
     ) -> Result<(), LineError>
-        ensures { LineBecomes result (spec.after_statement self.old (option_map (λ name. name.now) label.entry)
+        ensures { LineBecomes result (spec.after_statement self.old
+            (option_map (λ name. name.now) label.entry)
             (seen_statement statement.now)) self.new }
     {
         match statement {
@@ -79,7 +80,8 @@ impl Standing {
 
     /// Takes a line without an operation: its label, if any, stands for the address reached.
     fn after_nothing(&mut self, alloc: Global, label: Option<&[u8]>) -> Result<(), LineError>
-        ensures { LineBecomes result (spec.after_statement self.old (option_map (λ name. name.now) label.entry) says.nothing) self.new }
+        ensures { LineBecomes result (spec.after_statement self.old
+            (option_map (λ name. name.now) label.entry) says.nothing) self.new }
     {
         self.define(alloc, label, i32::from(self.at()))?;
         self.add(LineLayout::Blank)?;
@@ -88,7 +90,8 @@ impl Standing {
 
     /// Takes an ORG: the next line stands at its address.
     fn after_origin(&mut self, place: &Expression<'_, '_>) -> Result<(), LineError>
-        ensures { LineBecomes result (spec.after_statement self.old None (says.origin (expression_tree place.now))) self.new }
+        ensures { LineBecomes result (spec.after_statement self.old None
+            (says.origin (expression_tree place.now))) self.new }
     {
         let at = within_rom(self.known(place)?)?;
         self.go_to(at);
@@ -104,7 +107,8 @@ impl Standing {
         number: &Expression<'_, '_>,
     ) -> Result<(), LineError>
         ensures { LineBecomes result
-            (spec.after_statement self.old (option_map (λ name. name.now) label.entry) (says.equate (expression_tree number.now)))
+            (spec.after_statement self.old (option_map (λ name. name.now) label.entry)
+            (says.equate (expression_tree number.now)))
             self.new }
     {
         let value = self.known(number)?;
@@ -115,7 +119,8 @@ impl Standing {
 
     /// Takes an IF, which is open from there on.
     fn after_if(&mut self, test: &Expression<'_, '_>) -> Result<(), LineError>
-        ensures { LineBecomes result (spec.after_statement self.old None (says.condition (expression_tree test.now))) self.new }
+        ensures { LineBecomes result (spec.after_statement self.old None
+            (says.condition (expression_tree test.now))) self.new }
     {
         if !self.has_room() {
             return Err(LineError::Code(AsmCode::TooDeep));
@@ -134,7 +139,8 @@ impl Standing {
         size: &Expression<'_, '_>,
     ) -> Result<(), LineError>
         ensures { LineBecomes result
-            (spec.after_statement self.old (option_map (λ name. name.now) label.entry) (says.space (expression_tree size.now) None))
+            (spec.after_statement self.old (option_map (λ name. name.now) label.entry)
+            (says.space (expression_tree size.now) None))
             self.new }
     {
         let size = within_rom(self.known(size)?)?;
@@ -149,7 +155,8 @@ impl Standing {
         statement: &Statement<'_, '_>,
     ) -> Result<(), LineError>
         ensures { LineBecomes result
-            (spec.after_item self.old (option_map (λ name. name.now) label.entry) (statement_size (seen_statement statement.now)))
+            (spec.after_item self.old (option_map (λ name. name.now) label.entry)
+            (statement_size (seen_statement statement.now)))
             self.new }
     {
         self.after_item(alloc, label, statement.size())
@@ -162,7 +169,8 @@ impl Standing {
         label: Option<&[u8]>,
         size: u16,
     ) -> Result<(), LineError>
-        ensures { LineBecomes result (spec.after_item self.old (option_map (λ name. name.now) label.entry) size) self.new }
+        ensures { LineBecomes result (spec.after_item self.old
+            (option_map (λ name. name.now) label.entry) size) self.new }
     {
         let span = self.room_for(size)?;
         self.define(alloc, label, i32::from(span.at))?;

@@ -3,11 +3,13 @@
 ghost use Rattle.std.specs.Prelude.{◌≡◌, IfOk, IfSome, Ok, Some, length, option_map, replicate};
 ghost use Rattle.pac_lex.specs.TokensProofs.{views};
 ghost use Rattle.pac_code.specs.Items.{Code, Data, IsValid, bytes_in};
-ghost use Rattle.pac_asm_line.specs.Contents.{content_of, fill_value, gathered_bytes, joined_bytes, map_unless_fault, part_bytes};
+ghost use Rattle.pac_asm_line.specs.Contents.{content_of, fill_value, gathered_bytes, joined_bytes};
+ghost use Rattle.pac_asm_line.specs.Contents.{map_unless_fault, part_bytes};
 ghost use Rattle.pac_asm_line.specs.Contents.{word_bytes};
 ghost use Rattle.pac_asm_line.specs.ContentsProofs.{SizeFits};
 ghost use Rattle.pac_asm_line.specs.Gathered.{ContentGives, gathered_so_far};
-ghost use Rattle.pac_asm_line.specs.Views.{part_of_tokens, parts_of_operands, seen_statement, expression_tree, trees_of};
+ghost use Rattle.pac_asm_line.specs.Views.{part_of_tokens, parts_of_operands, seen_statement};
+ghost use Rattle.pac_asm_line.specs.Views.{expression_tree, trees_of};
 
 use crate::expression::Expression;
 use crate::gathered::{ContentError, Gathered};
@@ -33,10 +35,12 @@ impl<'t, 'a> Statement<'t, 'a> {
         here: u16,
         size: u16,
     ) -> Result<Option<Content>, ContentError>
-        ensures exact { ContentGives (λ found. found) result (content_of (S.lookup symbols.now) here size (seen_statement self.now)) }
+        ensures exact { ContentGives (λ found. found) result
+            (content_of (S.lookup symbols.now) here size (seen_statement self.now)) }
         // What is placed has as many bytes as the form says, or the space has, and an instruction is one of the table.
         ensures sized { SizeFits size (seen_statement self.now) →
-            IfOk result (λ found. IfSome found (λ content. IsValid content × (length (bytes_in content) ≡ size))) }
+            IfOk result (λ found. IfSome found
+            (λ content. IsValid content × (length (bytes_in content) ≡ size))) }
     {
         match self {
             Statement::Bytes(operands) => placed(bytes_of(alloc, *operands, symbols, here)?),
@@ -71,7 +75,8 @@ fn bytes_of<S: SymbolLookup>(
     here: u16,
 ) -> Result<Vec<u8, Global>, ContentError>
     ensures { ContentGives (λ v. v.items) result
-        (gathered_bytes (part_bytes (S.lookup symbols.now) here) (parts_of_operands operands.entry)) }
+        (gathered_bytes (part_bytes (S.lookup symbols.now) here)
+        (parts_of_operands operands.entry)) }
 {
     let mut found = Gathered::new(alloc, usize::from(bytes_size(operands)))?;
     let mut rest = all(operands);
@@ -93,7 +98,8 @@ fn put_part<S: SymbolLookup>(
 ) -> Result<(), AllocError>
     ensures { IfOk result
         (λ _. gathered_so_far found.new
-        ≡ joined_bytes (gathered_so_far found.old) (part_bytes (S.lookup symbols.now) here (part_of_tokens (views tokens.now)))) }
+        ≡ joined_bytes (gathered_so_far found.old)
+        (part_bytes (S.lookup symbols.now) here (part_of_tokens (views tokens.now)))) }
 {
     match text_in(tokens) {
         Some(written) => found.put_text(alloc, written),
@@ -108,7 +114,8 @@ fn words_of<S: SymbolLookup>(
     symbols: &S,
     here: u16,
 ) -> Result<Vec<u8, Global>, ContentError>
-    ensures { ContentGives (λ v. v.items) result (gathered_bytes (word_bytes (S.lookup symbols.now) here) (trees_of operands.entry)) }
+    ensures { ContentGives (λ v. v.items) result
+        (gathered_bytes (word_bytes (S.lookup symbols.now) here) (trees_of operands.entry)) }
 {
     let mut found = Gathered::new(alloc, usize::from(words_size(operands)))?;
     let mut rest = all(operands);
@@ -129,7 +136,8 @@ fn space_of<S: SymbolLookup>(
     size: u16,
 ) -> Result<Vec<u8, Global>, ContentError>
     ensures { ContentGives (λ v. v.items) result
-        (map_unless_fault (replicate size) (fill_value (S.lookup symbols.now) here (option_map expression_tree fill.now))) }
+        (map_unless_fault (replicate size) (fill_value (S.lookup symbols.now) here
+        (option_map expression_tree fill.now))) }
 {
     let byte = fill_value(fill, symbols, here)?;
     Ok(vec![in alloc; byte; usize::from(size)]?)
@@ -141,7 +149,8 @@ fn fill_value<S: SymbolLookup>(
     symbols: &S,
     here: u16,
 ) -> Result<u8, OperationFault>
-    ensures { result ≡ fill_value (S.lookup symbols.now) here (option_map expression_tree fill.now) }
+    ensures { result ≡ fill_value (S.lookup symbols.now) here
+        (option_map expression_tree fill.now) }
 {
     match fill {
         None => Ok(0),

@@ -7,7 +7,8 @@ ghost use Rattle.pac_expr.specs.Trees.{Tree};
 ghost use Rattle.pac_asm_operation.specs.Operands.{each_or_none, parts_at_commas};
 ghost use Rattle.pac_asm_operation.specs.Reserved.{expression_in};
 ghost use Rattle.pac_asm_line.specs.Statements as says;
-ghost use Rattle.pac_asm_line.specs.Forms.{directive_statement, one_or_more, one_or_two, part_in, text_in, no_operands};
+ghost use Rattle.pac_asm_line.specs.Forms.{directive_statement, one_or_more, one_or_two, part_in};
+ghost use Rattle.pac_asm_line.specs.Forms.{text_in, no_operands};
 ghost use Rattle.pac_asm_line.specs.Views as view;
 
 use crate::expression::expression_in;
@@ -21,7 +22,8 @@ pub(crate) fn directed<'t, 'a>(
     directive: Directive,
     tokens: &'t [Token<'a>],
 ) -> Option<Statement<'t, 'a>>
-    ensures { option_map view.seen_statement result ≡ directive_statement directive (views tokens.now) }
+    ensures { option_map view.seen_statement result
+        ≡ directive_statement directive (views tokens.now) }
 {
     match directive {
         Directive::Origin => Some(Statement::Origin(expression_in(tokens)?)),
@@ -41,7 +43,8 @@ fn no_operands<'t, 'a>(
     statement: Statement<'t, 'a>,
     tokens: &[Token<'_>],
 ) -> Option<Statement<'t, 'a>>
-    ensures { option_map view.seen_statement result ≡ no_operands (view.seen_statement statement.entry) (views tokens.now) }
+    ensures { option_map view.seen_statement result
+        ≡ no_operands (view.seen_statement statement.entry) (views tokens.now) }
 {
     if tokens.is_empty() {
         Some(statement)
@@ -52,7 +55,8 @@ fn no_operands<'t, 'a>(
 
 /// The space that one or two expressions tell.
 fn space_in<'t, 'a>(tokens: &'t [Token<'a>]) -> Option<Statement<'t, 'a>>
-    ensures { option_map view.seen_statement result ≡ one_or_two (each_or_none expression_in (parts_at_commas (views tokens.now))) }
+    ensures { option_map view.seen_statement result
+        ≡ one_or_two (each_or_none expression_in (parts_at_commas (views tokens.now))) }
 {
     if tokens.is_empty() {
         return None;

@@ -85,7 +85,8 @@ impl Gathered {
     pub(crate) fn put_word(&mut self, word: Result<u16, OperationFault>) -> Result<(), AllocError>
         ensures { IfOk result
             (λ _. gathered_so_far self.new
-            ≡ joined_bytes (gathered_so_far self.old) (map_unless_fault (λ w. low_byte w ∷ high_byte w ∷ []) word)) }
+            ≡ joined_bytes (gathered_so_far self.old)
+            (map_unless_fault (λ w. low_byte w ∷ high_byte w ∷ []) word)) }
     {
         match word {
             Ok(word) => {
@@ -101,7 +102,8 @@ impl Gathered {
 
     /// Adds the characters of a text, whose bytes stand here with their quotes.
     pub(crate) fn put_text(&mut self, alloc: Global, written: &[u8]) -> Result<(), AllocError>
-        ensures { IfOk result (λ _. gathered_so_far self.new ≡ joined_bytes (gathered_so_far self.old) (Ok (characters_of written.now))) }
+        ensures { IfOk result (λ _. gathered_so_far self.new
+            ≡ joined_bytes (gathered_so_far self.old) (Ok (characters_of written.now))) }
     {
         if self.fault.is_none() {
             self.bytes.extend_from_slice(&characters(alloc, written)?)?;
@@ -121,7 +123,8 @@ impl Gathered {
 
     /// Adds a byte, unless there is a fault.
     fn push(&mut self, byte: u8) -> Result<(), AllocError>
-        ensures { IfOk result (λ _. gathered_so_far self.new ≡ joined_bytes (gathered_so_far self.old) (Ok (byte ∷ []))) }
+        ensures { IfOk result (λ _. gathered_so_far self.new
+            ≡ joined_bytes (gathered_so_far self.old) (Ok (byte ∷ []))) }
     {
         if self.fault.is_none() {
             self.bytes.push(byte)?;

@@ -2,7 +2,9 @@
 
 ghost use Rattle.std.specs.Prelude.{◌≡◌, option_map};
 ghost use Rattle.pac_lex.specs.TokensProofs.{views};
-ghost use Rattle.pac_asm_line.specs.Forms.{after_colon, directive_or_operation, form_of, form_with_label, is_colon, is_name_kind, statement_after_label, may_stand};
+ghost use Rattle.pac_asm_line.specs.Forms.{after_colon, directive_or_operation, form_of};
+ghost use Rattle.pac_asm_line.specs.Forms.{form_with_label, is_colon, is_name_kind};
+ghost use Rattle.pac_asm_line.specs.Forms.{statement_after_label, may_stand};
 ghost use Rattle.pac_asm_line.specs.Views as view;
 
 use crate::directed::directed;
@@ -39,7 +41,8 @@ fn formed<'t, 'a>(
     statement: Option<Statement<'t, 'a>>,
 ) -> Option<Form<'t, 'a>>
     ensures { option_map view.seen_form result
-        ≡ form_with_label (option_map (λ name. name.now) label.entry) (option_map view.seen_statement statement.entry) }
+        ≡ form_with_label (option_map (λ name. name.now) label.entry)
+        (option_map view.seen_statement statement.entry) }
 {
     let statement = statement?;
     if may_stand(label.is_some(), &statement) {
@@ -94,7 +97,8 @@ fn directed_or<'t, 'a>(
     word: &'a [u8],
     tokens: &'t [Token<'a>],
 ) -> Option<Statement<'t, 'a>>
-    ensures { option_map view.seen_statement result ≡ directive_or_operation directive word.now (views tokens.now) }
+    ensures { option_map view.seen_statement result
+        ≡ directive_or_operation directive word.now (views tokens.now) }
 {
     match directive {
         Some(directive) => directed(directive, tokens),

@@ -1,7 +1,8 @@
 //! Numbers as bytes and words.
 
 ghost use Rattle.std.specs.Prelude.{◌≡◌};
-ghost use Rattle.pac_asm_line.specs.Contents.{byte_of_number, byte_value, word_of_number, word_value};
+ghost use Rattle.pac_asm_line.specs.Contents.{byte_of_number, byte_value, word_of_number};
+ghost use Rattle.pac_asm_line.specs.Contents.{word_value};
 ghost use Rattle.pac_asm_line.specs.Views.{expression_tree};
 
 use crate::expression::Expression;

@@ -56,7 +56,8 @@ pub(crate) fn words_in<'t, 'a>(tokens: &'t [Token<'a>]) -> Option<OperandList<'t
 
 /// Whether each part of the tokens is an operand of a DEFB.
 fn are_parts(tokens: &[Token<'_>]) -> bool
-    ensures { result ≡ list_all (λ tokens. is_some (part_in tokens)) (slice_split is_comma (views tokens.now)) }
+    ensures { result ≡ list_all (λ tokens. is_some (part_in tokens))
+        (slice_split is_comma (views tokens.now)) }
 {
     let mut rest = Some(tokens);
     while let Some(tokens) = rest {
@@ -71,7 +72,8 @@ fn are_parts(tokens: &[Token<'_>]) -> bool
 
 /// Whether each part of the tokens is an expression.
 fn are_expressions(tokens: &[Token<'_>]) -> bool
-    ensures { result ≡ list_all (λ tokens. is_some (expression_in tokens)) (slice_split is_comma (views tokens.now)) }
+    ensures { result ≡ list_all (λ tokens. is_some (expression_in tokens))
+        (slice_split is_comma (views tokens.now)) }
 {
     let mut rest = Some(tokens);
     while let Some(tokens) = rest {
@@ -93,7 +95,8 @@ fn is_part(tokens: &[Token<'_>]) -> bool
 
 /// The text that stands alone in tokens, with its quotes.
 pub(crate) fn text_in<'a>(tokens: &[Token<'a>]) -> Option<&'a [u8]>
-    ensures { option_map (λ written. characters_of written.now) result ≡ text_in (views tokens.now) }
+    ensures { option_map (λ written. characters_of written.now) result
+        ≡ text_in (views tokens.now) }
 {
     let [token] = tokens else {
         return None;

@@ -1,12 +1,17 @@
 //! The parts of the code that hold the numbers of an operation.
 
-ghost use Rattle.std.specs.Prelude.{◌≡◌, ◌<◌, Some, None, find, option_map, if◌then◌else◌, ◌+◌, ◌/◌, ◌%◌, ◌==◌, ◌&&◌, ◌≤ℤ◌, neg_ℤ, pos, negsuc, unsigned_abs, true};
+ghost use Rattle.std.specs.Prelude.{◌≡◌, ◌<◌, Some, None, find, option_map, if◌then◌else◌, ◌+◌};
+ghost use Rattle.std.specs.Prelude.{◌/◌, ◌%◌, ◌==◌, ◌&&◌, ◌≤ℤ◌, neg_ℤ, pos, negsuc, unsigned_abs};
+ghost use Rattle.std.specs.Prelude.{true};
 ghost use Rattle.std.specs.List.{All};
 ghost use Rattle.pac_table.specs.Instructions.{row_at, row_count};
 ghost use Rattle.pac_table_names.specs.Names.{listed_shapes};
-ghost use Rattle.pac_asm_operation.specs.Operations.{all_take, are_forms, complement_of_number, holds, is_in_interval, is_number, takes, with_all_operands, with_number, with_operand};
+ghost use Rattle.pac_asm_operation.specs.Operations.{all_take, are_forms, complement_of_number};
+ghost use Rattle.pac_asm_operation.specs.Operations.{holds, is_in_interval, is_number, takes};
+ghost use Rattle.pac_asm_operation.specs.Operations.{with_all_operands, with_number, with_operand};
 ghost use Rattle.pac_asm_operation.specs.Views.{operand_pair};
-ghost use Rattle.pac_asm_operation.specs.Kept.{as_instruction, with_row_number, parts_in_row, suits_row};
+ghost use Rattle.pac_asm_operation.specs.Kept.{as_instruction, with_row_number, parts_in_row};
+ghost use Rattle.pac_asm_operation.specs.Kept.{suits_row};
 
 use crate::form::{family_in, fits, row_size};
 use crate::operand::Operand;
@@ -93,10 +98,12 @@ fn filled(
     second: &Option<Operand<i32>>,
     parts: Parts,
 ) -> Option<Parts>
-    requires { are_forms (listed_shapes shapes.0 shapes.1) (operand_pair first.now second.now) ≡ true }
+    requires { are_forms (listed_shapes shapes.0 shapes.1) (operand_pair first.now second.now)
+        ≡ true }
     ensures { option_map as_instruction result
         ≡ (if all_take (listed_shapes shapes.0 shapes.1) next (operand_pair first.now second.now)
-        then Some (with_all_operands (listed_shapes shapes.0 shapes.1) next (operand_pair first.now second.now) (as_instruction parts)) else None) }
+        then Some (with_all_operands (listed_shapes shapes.0 shapes.1) next
+        (operand_pair first.now second.now) (as_instruction parts)) else None) }
 {
     let Some(operand) = first else {
         return Some(parts);
@@ -111,7 +118,8 @@ fn filled(
 /// The parts with an operand in them, where its number is taken.
 fn with_operand(shape: Shape, next: u32, operand: &Operand<i32>, parts: Parts) -> Option<Parts>
     ensures { option_map as_instruction result
-        ≡ (if takes shape next operand.now then Some (with_operand shape next operand.now (as_instruction parts)) else None) }
+        ≡ (if takes shape next operand.now then Some
+        (with_operand shape next operand.now (as_instruction parts)) else None) }
 {
     match (shape, operand) {
         (Shape::FirstField(names), Operand::Named(name)) => Some(Parts {
@@ -167,7 +175,8 @@ fn with_displacement(number: i64, parts: Parts) -> Option<Parts>
 /// The parts with a byte, -128 to 255.
 fn with_byte(number: i32, parts: Parts) -> Option<Parts>
     ensures { option_map as_instruction result ≡ (if is_in_interval (negsuc 127) (pos 255) number
-        then Some (record (as_instruction parts) { word = complement_of_number 255 number }) else None) }
+        then Some (record (as_instruction parts) { word = complement_of_number 255 number })
+        else None) }
 {
     if number < -128 || number > 255 {
         return None;
@@ -180,8 +189,10 @@ fn with_byte(number: i32, parts: Parts) -> Option<Parts>
 
 /// The parts with a word, -32768 to 65535.
 fn with_word(number: i32, parts: Parts) -> Option<Parts>
-    ensures { option_map as_instruction result ≡ (if is_in_interval (negsuc 32767) (pos 65535) number
-        then Some (record (as_instruction parts) { word = complement_of_number 65535 number }) else None) }
+    ensures { option_map as_instruction result
+        ≡ (if is_in_interval (negsuc 32767) (pos 65535) number
+        then Some (record (as_instruction parts) { word = complement_of_number 65535 number })
+        else None) }
 {
     if number < -32768 || number > 65535 {
         return None;

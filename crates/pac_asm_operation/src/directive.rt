@@ -57,7 +57,8 @@ static WITH_O: [(&[u8], Directive); 1] = [(b"ORG", Directive::Origin)];
 
 /// The directives whose names begin with a letter, in either case.
 fn directives_with(first: u8) -> &'static [(&'static [u8], Directive)]
-    ensures { map (λ entry. (entry.0.now, entry.1)) result.now ≡ filter (begins_directive first) directive_names }
+    ensures { map (λ entry. (entry.0.now, entry.1)) result.now
+        ≡ filter (begins_directive first) directive_names }
 {
     match first.to_ascii_uppercase() {
         b'D' => &WITH_D,
@@ -85,7 +86,8 @@ pub fn directive_of(word: &[u8]) -> Option<Directive>
 
 /// The first of some directives whose name a word is.
 fn found(word: &[u8], names: &[(&[u8], Directive)]) -> Option<Directive>
-    ensures { result ≡ lookup (str_eq_ignore_ascii_case word.now) (map (λ entry. (entry.0.now, entry.1)) names.now) }
+    ensures { result ≡ lookup (str_eq_ignore_ascii_case word.now)
+        (map (λ entry. (entry.0.now, entry.1)) names.now) }
 {
     for (name, directive) in names {
         if is_named(word, name) {

@@ -67,7 +67,8 @@ fn are_forms<T>(
     first: &Option<Operand<T>>,
     second: &Option<Operand<T>>,
 ) -> bool
-    ensures { result ≡ are_forms (listed_shapes shapes.0 shapes.1) (operand_pair first.now second.now) }
+    ensures { result ≡ are_forms (listed_shapes shapes.0 shapes.1)
+        (operand_pair first.now second.now) }
 {
     match first {
         None => is_absent(shapes.0),

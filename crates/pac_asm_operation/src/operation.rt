@@ -40,7 +40,8 @@ impl<'t, 'a> Model for Operation<'t, 'a> {
 }
 
 impl<'t, 'a> Operation<'t, 'a> {
-    ghost use Rattle.pac_asm_operation.specs.Operations.{operation_of, operation_size, instruction_of};
+    ghost use Rattle.pac_asm_operation.specs.Operations.{operation_of, operation_size};
+    ghost use Rattle.pac_asm_operation.specs.Operations.{instruction_of};
     ghost use Rattle.pac_asm_operation.specs.Kept.{seen_operation};
 
     /// The operation that a name is with the tokens after it, if it is one.
@@ -75,8 +76,10 @@ impl<'t, 'a> Operation<'t, 'a> {
         symbols: &S,
         here: u16,
     ) -> Result<Instr, OperationFault>
-        ensures exact { result ≡ instruction_of (S.lookup symbols.now) here (seen_operation self.now) }
-        ensures size { IfOk result (λ i. length (code i) ≡ operation_size (seen_operation self.now)) }
+        ensures exact { result ≡ instruction_of (S.lookup symbols.now) here
+            (seen_operation self.now) }
+        ensures size { IfOk result (λ i. length (code i)
+            ≡ operation_size (seen_operation self.now)) }
         ensures valid { IfOk result IsInstruction }
     {
         match values(&self.first, &self.second, symbols, here) {

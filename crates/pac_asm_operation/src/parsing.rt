@@ -1,9 +1,13 @@
 //! An operand read from its tokens.
 
-ghost use Rattle.std.specs.Prelude.{◌≡◌, ◌∷◌, ◌++◌, [], IfSome, IfNone, MatchOption, option_map, if◌then◌else◌, take, length, ◌-◌};
+ghost use Rattle.std.specs.Prelude.{◌≡◌, ◌∷◌, ◌++◌, [], IfSome, IfNone, MatchOption, option_map};
+ghost use Rattle.std.specs.Prelude.{if◌then◌else◌, take, length, ◌-◌};
 ghost use Rattle.pac_lex.specs.TokensProofs.{view, views};
 ghost use Rattle.std.specs.List.{slice_split};
-ghost use Rattle.pac_asm_operation.specs.Operands.{parts_at_commas, is_comma, operands_of_parts, operand_of, expression_operand, lone_operand, indirect_operand, operand_after_name, is_sign, ends_closed};
+ghost use Rattle.pac_asm_operation.specs.Operands.{parts_at_commas, is_comma, operands_of_parts};
+ghost use Rattle.pac_asm_operation.specs.Operands.{operand_of, expression_operand, lone_operand};
+ghost use Rattle.pac_asm_operation.specs.Operands.{indirect_operand, operand_after_name, is_sign};
+ghost use Rattle.pac_asm_operation.specs.Operands.{ends_closed};
 ghost use Rattle.pac_asm_operation.specs.Views.{FindsOperand, inside_parentheses};
 ghost use Rattle.pac_asm_operation.specs.Kept.{FindsOperands, FindsLastOperand};
 
@@ -38,7 +42,8 @@ pub(crate) fn operands<'t, 'a>(
 
 /// The operand that tokens are, where no comma parts them.
 fn last_operand<'t, 'a>(tokens: &'t [Token<'a>]) -> Option<Operand<&'t [Token<'a>]>>
-    ensures { FindsLastOperand result (operands_of_parts (slice_split is_comma (views tokens.now))) }
+    ensures { FindsLastOperand result (operands_of_parts
+        (slice_split is_comma (views tokens.now))) }
 {
     let (part, rest) = next_part(tokens);
     let last = operand(part)?;
@@ -70,7 +75,8 @@ pub(crate) fn operand<'t, 'a>(tokens: &'t [Token<'a>]) -> Option<Operand<&'t [To
 
 /// An operand of one token.
 fn lone<'t, 'a>(token: &Token<'a>, tokens: &'t [Token<'a>]) -> Option<Operand<&'t [Token<'a>]>>
-    ensures { FindsOperand result (lone_operand token.now.kind token.now.text.now (views tokens.now)) }
+    ensures { FindsOperand result (lone_operand token.now.kind
+        token.now.text.now (views tokens.now)) }
 {
     if let TokenKind::AlternateAf = token.kind {
         return Some(Operand::AlternateAf);
@@ -111,7 +117,8 @@ fn between<'t, 'a>(tokens: &'t [Token<'a>]) -> Option<&'t [Token<'a>]>
 /// What stands before a parenthesis at the last token.
 fn before_closing<'t, 'a>(tokens: &'t [Token<'a>]) -> Option<&'t [Token<'a>]>
     ensures { option_map (λ inner. views inner.now) result
-        ≡ (if ends_closed (views tokens.now) then Some (take (length (views tokens.now) - 1) (views tokens.now)) else None) }
+        ≡ (if ends_closed (views tokens.now) then Some
+        (take (length (views tokens.now) - 1) (views tokens.now)) else None) }
 {
     let (last, inner) = tokens.split_last()?;
     if closes(last) { Some(inner) } else { None }

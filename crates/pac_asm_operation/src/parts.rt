@@ -32,7 +32,8 @@ fn comma_place(tokens: &[Token<'_>]) -> usize
 
 /// The tokens before the first comma, and those after it if there is one.
 pub fn next_part<'t, 'a>(tokens: &'t [Token<'a>]) -> (&'t [Token<'a>], Option<&'t [Token<'a>]>)
-    ensures parts { slice_split is_comma (views tokens.now) ≡ views result.0.now ∷ parts_after result.1 }
+    ensures parts { slice_split is_comma (views tokens.now)
+        ≡ views result.0.now ∷ parts_after result.1 }
     ensures shorter { IfSome result.1 (λ rest. length rest.now < length tokens.now) }
 {
     let at = comma_place(tokens);

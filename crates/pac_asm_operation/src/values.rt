@@ -3,7 +3,8 @@
 ghost use Rattle.std.specs.Prelude.{◌≡◌};
 ghost use Rattle.pac_expr.specs.Values as expressions;
 ghost use Rattle.pac_asm_operation.specs.Operations.{valued_operands, valued_operand};
-ghost use Rattle.pac_asm_operation.specs.Views.{IsKnown, IsKnownIf, IsTree, seen_operands, seen_operand, tree_within};
+ghost use Rattle.pac_asm_operation.specs.Views.{IsKnown, IsKnownIf, IsTree, seen_operands};
+ghost use Rattle.pac_asm_operation.specs.Views.{seen_operand, tree_within};
 ghost use Rattle.pac_asm_operation.specs.Kept.{number_or_fault, pair_of};
 
 use crate::fault::OperationFault;
@@ -20,7 +21,8 @@ pub(crate) fn values<S: SymbolLookup>(
 ) -> Result<(Option<Operand<i32>>, Option<Operand<i32>>), OperationFault>
     requires first { IsKnownIf first.now }
     requires second { IsKnownIf second.now }
-    ensures { pair_of result ≡ valued_operands (S.lookup symbols.now) here (seen_operands first.now second.now) }
+    ensures { pair_of result ≡ valued_operands (S.lookup symbols.now) here
+        (seen_operands first.now second.now) }
 {
     let Some(first) = first else {
         return Ok((None, None));
@@ -70,7 +72,8 @@ fn number<S: SymbolLookup>(
     here: u16,
 ) -> Result<i32, OperationFault>
     requires { IsTree tokens.now }
-    ensures { result ≡ number_or_fault (expressions.tree_value (S.lookup symbols.now) here (tree_within tokens.now)) }
+    ensures { result ≡ number_or_fault (expressions.tree_value (S.lookup symbols.now) here
+        (tree_within tokens.now)) }
 {
     match value(tokens, symbols, here) {
         Some(answer) => number_of(answer),

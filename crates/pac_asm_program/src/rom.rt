@@ -32,7 +32,8 @@ pub fn rom_of(alloc: Global, lines: &[Line]) -> Result<Box<[u8; 16384], Global>,
 
 /// Writes an item's bytes over others, as far as they are in the ROM.
 fn put(rom: &mut [u8; 16384], item: &Item)
-    ensures { rom.new ≡ map (λ cell. byte_over item.now cell (slice_index rom.old cell)) (range_with_len 0 rom_size) }
+    ensures { rom.new ≡ map (λ cell. byte_over item.now cell (slice_index rom.old cell))
+        (range_with_len 0 rom_size) }
 {
     let at = item.at() as usize;
     let bytes = item.content().bytes();

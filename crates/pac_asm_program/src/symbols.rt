@@ -1,6 +1,7 @@
 //! Symbols: names that stand for numbers.
 
-ghost use Rattle.std.specs.Prelude.{◌≡◌, [], length, ◌==◌, slice_get, is_none, option_map, IfOk, OnErr};
+ghost use Rattle.std.specs.Prelude.{◌≡◌, [], length, ◌==◌, slice_get, is_none, option_map, IfOk};
+ghost use Rattle.std.specs.Prelude.{OnErr};
 ghost use Rattle.pac_asm_program.specs.Names.{number_of_symbol, with_symbol};
 ghost use Rattle.pac_asm_program.specs.NamesProofs.{AreDistinct};
 
@@ -38,7 +39,8 @@ impl Symbols {
     /// Defines a name, and tells whether it is new. A name that stands already keeps its number; where memory is
     /// refused nothing changes.
     pub fn define(&mut self, alloc: Global, name: &[u8], number: i32) -> Result<bool, AllocError>
-        ensures is_new { IfOk result (λ is_new. is_new ≡ is_none (number_of_symbol self.old name.now)) }
+        ensures is_new { IfOk result (λ is_new. is_new
+            ≡ is_none (number_of_symbol self.old name.now)) }
         ensures defined { IfOk result (λ is_new. self.new ≡ with_symbol self.old name.now number) }
         ensures refused { OnErr result (self.new ≡ self.old) }
     {

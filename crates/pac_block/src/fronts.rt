@@ -32,7 +32,11 @@ fn power_on_fields<'a>(memory: MemoryFields<'a>, lines: &'a RawLines) -> Fields<
     ensures { state_of result ≡ record {
       now = record {
         regs = power_on_regs;
-        board = record { memory = view_of_fields memory.entry; accumulators = power_on_accumulators; lines = lines.now };
+        board = record {
+          memory = view_of_fields memory.entry;
+          accumulators = power_on_accumulators;
+          lines = lines.now;
+        };
         time = 0;
         steps = 0;
       };

@@ -4,7 +4,8 @@ ghost use Rattle.std.specs.Prelude.{◌≡◌, ◌<◌, ◌≤◌, ◌+◌, ◌-
 ghost use Rattle.pac_machine.specs.Standing.{latest, nothing_due};
 ghost use Rattle.pac_board.specs.State.{due_outputs};
 ghost use Rattle.pac_board.specs.Calls.{with_due};
-ghost use Rattle.pac_board.specs.CallsLaws.{Offers, IsAdvanced, Advances, StepsOnce, StepsOn, Executes, once_of_board, stop_of_once};
+ghost use Rattle.pac_board.specs.CallsLaws.{Offers, IsAdvanced, Advances, StepsOnce, StepsOn};
+ghost use Rattle.pac_board.specs.CallsLaws.{Executes, once_of_board, stop_of_once};
 ghost use Rattle.pac_board.specs.SinksLaws.{by};
 ghost use Rattle.pac_board.specs.TurnsProofs.{Turns, IsShort, told_once};
 ghost use Rattle.pac_board.specs.Turns.{GoesTo};
@@ -104,7 +105,8 @@ impl Board {
     #[inline(always)]
     fn give<S: Sink>(&mut self, given: Due, sink: &mut S) -> Result<(), Refused>
         requires nothing { self.old.state.due ≡ nothing_due }
-        ensures { Offers (by S.took S.refused) (with_due self.old given) sink.old result self.new sink.new }
+        ensures { Offers (by S.took S.refused) (with_due self.old given) sink.old
+            result self.new sink.new }
     {
         let mut due = given;
         let offered = offer(&mut due, self.machine.picture(), sink);
@@ -161,7 +163,8 @@ impl Board {
         requires nothing { due_outputs self.old ≡ [] }
         requires none { met.old ≡ None }
         requires unmet { W.met watch.old ≡ None }
-        ensures made { HasBatch self.old limit met.new (take result.1 samples.new) (with_due self.new result.2) }
+        ensures made { HasBatch self.old limit met.new (take result.1 samples.new)
+            (with_due self.new result.2) }
         ensures told { IsTold self.old limit self.new told.old told.new }
         ensures passes { BoardPasses stops.now self.old self.new }
         ensures watched { BoardWatched (W.marks watch.old) self.old self.new (W.met watch.new) }
@@ -215,7 +218,8 @@ impl Board {
         requires limit { limit ≤ latest }
         requires nothing { due_outputs self.old ≡ [] }
         requires unmet { W.met watch.old ≡ None }
-        ensures made { Stretches (by S.took S.refused) self.old limit sink.old result self.new sink.new }
+        ensures made { Stretches (by S.took S.refused) self.old limit sink.old
+            result self.new sink.new }
         ensures told { IsTold self.old limit self.new told.old told.new }
         ensures passes { BoardPasses stops.now self.old self.new }
         ensures watched { BoardWatched (W.marks watch.old) self.old self.new (W.met watch.new) }
@@ -255,7 +259,8 @@ impl Board {
         requires nothing { due_outputs self.old ≡ [] }
         requires made { self.old.made < 2 ^ 64 }
         requires unmet { W.met watch.old ≡ None }
-        ensures made { GoesUntil (by S.took S.refused) self.old limit stops.now (W.met watch.new) sink.old result self.new sink.new }
+        ensures made { GoesUntil (by S.took S.refused) self.old limit stops.now (W.met watch.new)
+            sink.old result self.new sink.new }
         ensures told { IsTold self.old limit self.new told.old told.new }
         ensures passes { BoardPasses stops.now self.old self.new }
         ensures watched { BoardWatched (W.marks watch.old) self.old self.new (W.met watch.new) }
@@ -313,7 +318,8 @@ impl Board {
         requires limit { limit ≤ latest }
         requires nothing { due_outputs self.old ≡ [] }
         requires unmet { W.met watch.old ≡ None }
-        ensures made { GoesUntil (by S.took S.refused) self.old limit stops.now (W.met watch.new) sink.old result self.new sink.new }
+        ensures made { GoesUntil (by S.took S.refused) self.old limit stops.now (W.met watch.new)
+            sink.old result self.new sink.new }
         ensures told { IsTold self.old limit self.new told.old told.new }
         ensures passes { BoardPasses stops.now self.old self.new }
         ensures watched { BoardWatched (W.marks watch.old) self.old self.new (W.met watch.new) }

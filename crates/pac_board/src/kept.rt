@@ -3,7 +3,8 @@
 ghost use Rattle.std.specs.Prelude.{◌≡◌, ◌<◌, ◌==◌, [], IfOk, map};
 ghost use Rattle.pac_picture.specs.Tiles as tile;
 ghost use Rattle.pac_board.specs.SinksLaws.{offered_image};
-ghost use Rattle.pac_board.specs.Kept.{Keeps, Declines, sink_after_offer, output_of, pixel_number, pixel_colour};
+ghost use Rattle.pac_board.specs.Kept.{Keeps, Declines, sink_after_offer, output_of, pixel_number};
+ghost use Rattle.pac_board.specs.Kept.{pixel_colour};
 
 use crate::sink::{Refused, Sink};
 use pac_picture::{Lines, Picture};

@@ -1,6 +1,7 @@
 //! Laws of the calls.
 
-ghost use Rattle.pac_board.specs.Laws.{TimeCanBeCut, RefusalsAreTakenUp, StepsAreDoneAgain, StepsArePartsOfRuns};
+ghost use Rattle.pac_board.specs.Laws.{TimeCanBeCut, RefusalsAreTakenUp, StepsAreDoneAgain};
+ghost use Rattle.pac_board.specs.Laws.{StepsArePartsOfRuns};
 ghost use Rattle.pac_board.specs.Hosts.{CallsAreOfTheHistory, ListsAreCut, RestoresGiveAgain};
 ghost use Rattle.pac_board.specs.SinksLaws.{by};
 

@@ -3,7 +3,8 @@
 ghost use Rattle.std.specs.Prelude.{◌≡◌, ◌+◌, ◌<◌, ◌≤◌, ℕ, IfOk, length, slice_index};
 ghost use Rattle.std.specs.Int.{to_le_bytes, w32};
 ghost use Rattle.pac_bus.specs.Reads.{four_from};
-ghost use Rattle.pac_bus.specs.Flat.{Cells, byte_at, input_at, cells_after_action, cells_with_bytes, IsBlank};
+ghost use Rattle.pac_bus.specs.Flat.{Cells, byte_at, input_at, cells_after_action};
+ghost use Rattle.pac_bus.specs.Flat.{cells_with_bytes, IsBlank};
 
 use crate::{Bus, packed};
 use std::alloc::{AllocError, Global};

@@ -1,7 +1,8 @@
 //! Instructions to bytes.
 
 ghost use Rattle.std.specs.Prelude.{◌≡◌, ◌+◌, ◌≤◌, ◌++◌, ◌<◌, ◌∷◌, [], ◌==◌, length};
-ghost use Rattle.pac_table.specs.Patterns.{IsDisplacement, immediate_bytes, page_prefix, word_limit};
+ghost use Rattle.pac_table.specs.Patterns.{IsDisplacement, immediate_bytes, page_prefix};
+ghost use Rattle.pac_table.specs.Patterns.{word_limit};
 ghost use Rattle.pac_table.specs.PatternsLaws.{longest_code};
 ghost use Rattle.pac_table.specs.Instructions.{code};
 
@@ -76,7 +77,8 @@ fn put_prefix(bytes: &mut ArrayVec<u8, 4>, page: Page)
 
 /// Puts what follows the opcode byte.
 fn put_immediate(bytes: &mut ArrayVec<u8, 4>, immediate: Immediate, word: u16, displacement: i8)
-    requires room { length bytes.old.items + length (immediate_bytes immediate word displacement) ≤ longest_code }
+    requires room { length bytes.old.items + length
+        (immediate_bytes immediate word displacement) ≤ longest_code }
     requires word { word < word_limit immediate }
     requires displacement { IsDisplacement immediate displacement }
     ensures { bytes.new.items ≡ bytes.old.items ++ immediate_bytes immediate word displacement }

@@ -79,12 +79,15 @@ impl Cpu {
     /// asked for.
     #[inline(always)]
     pub fn step<B: Bus>(&mut self, bus: &mut B, request: Option<u8>) -> Once
-        ensures did { DoesCpuStep B.after (cpu_step (surroundings_of B.byte_at B.input_at B.after bus.old) self.old request)
+        ensures did { DoesCpuStep B.after (cpu_step
+            (surroundings_of B.byte_at B.input_at B.after bus.old) self.old request)
             self.old bus.old self.new bus.new result }
-        ensures time { IfStepped result (λ ticks kind. (least_ticks ≤ ticks) × (ticks ≤ most_ticks)) }
+        ensures time { IfStepped result (λ ticks kind. (least_ticks ≤ ticks)
+            × (ticks ≤ most_ticks)) }
         ensures stop { IfStopped result (λ stop. (self.new ≡ self.old) × (bus.new ≡ bus.old)) }
         ensures again { IfStopped result (λ stop.
-            cpu_step (surroundings_of B.byte_at B.input_at B.after bus.new) self.new request ≡ Stops stop) }
+            cpu_step (surroundings_of B.byte_at B.input_at B.after bus.new) self.new request
+            ≡ Stops stop) }
     {
         advance(Way::ByRows, &mut self.regs, bus, request)
     }
@@ -92,9 +95,11 @@ impl Cpu {
     /// Does one step, as `step`, in a third of its code: each instruction is a call.
     #[inline(always)]
     pub fn step_apart<B: Bus>(&mut self, bus: &mut B, request: Option<u8>) -> Once
-        ensures did { DoesCpuStep B.after (cpu_step (surroundings_of B.byte_at B.input_at B.after bus.old) self.old request)
+        ensures did { DoesCpuStep B.after (cpu_step
+            (surroundings_of B.byte_at B.input_at B.after bus.old) self.old request)
             self.old bus.old self.new bus.new result }
-        ensures time { IfStepped result (λ ticks kind. (least_ticks ≤ ticks) × (ticks ≤ most_ticks)) }
+        ensures time { IfStepped result (λ ticks kind. (least_ticks ≤ ticks)
+            × (ticks ≤ most_ticks)) }
     {
         advance(Way::Apart, &mut self.regs, bus, request)
     }

@@ -3,7 +3,8 @@
 ghost use Rattle.std.specs.Prelude.{◌≡◌, ℕ, Option};
 ghost use Rattle.pac_bus.specs.Action.{Action};
 ghost use Rattle.pac_exec.specs.declared.regs.Regs.{Regs};
-ghost use Rattle.pac_cpu.specs.StepLaws.{CpuStepRestsOnAnswers, EachCpuStepIsInTime, surroundings_of};
+ghost use Rattle.pac_cpu.specs.StepLaws.{CpuStepRestsOnAnswers, EachCpuStepIsInTime};
+ghost use Rattle.pac_cpu.specs.StepLaws.{surroundings_of};
 ghost use Rattle.pac_cpu.specs.Step.{cpu_step};
 ghost use Rattle.pac_cpu.specs.StepReadsLaws.{CpuStepRestsOnReads};
 
@@ -30,7 +31,8 @@ pub fn cpu_step_commutes_with_views<From: Bus, To: Bus>()
     ensures { (view : From → To)
         → ((bus : From) (at : ℕ) → From.byte_at bus at ≡ To.byte_at (view bus) at)
         → ((bus : From) (port : ℕ) → From.input_at bus port ≡ To.input_at (view bus) port)
-        → ((bus : From) (action : Action) → view (From.after bus action) ≡ To.after (view bus) action)
+        → ((bus : From) (action : Action) → view (From.after bus action)
+        ≡ To.after (view bus) action)
         → (bus : From) (regs : Regs) (request : Option ℕ)
         → cpu_step (surroundings_of From.byte_at From.input_at From.after bus) regs request
         ≡ cpu_step (surroundings_of To.byte_at To.input_at To.after (view bus)) regs request }

@@ -3,7 +3,10 @@
 
 ghost use Rattle.pac_cpu_vectors.specs.Decimals.{EachDaaIsByBits};
 ghost use Rattle.pac_cpu_vectors.specs.DaaLines.{EachDaaLineHolds};
-ghost use Rattle.pac_cpu_vectors.specs.Manual.{CopiesBlocks, SearchesBlocks, InputsBlocks, OutputsBlocks, RotatesA, AdjustsDecimals, AcceptsInModes, AcceptsRestarts, OnlyTheseAreRestarts};
+ghost use Rattle.pac_cpu_vectors.specs.Manual.{CopiesBlocks, SearchesBlocks, InputsBlocks};
+ghost use Rattle.pac_cpu_vectors.specs.Manual.{OutputsBlocks, RotatesA, AdjustsDecimals};
+ghost use Rattle.pac_cpu_vectors.specs.Manual.{AcceptsInModes, AcceptsRestarts};
+ghost use Rattle.pac_cpu_vectors.specs.Manual.{OnlyTheseAreRestarts};
 ghost use Rattle.pac_cpu_vectors.specs.ReadLines.{EachReadLineHolds};
 
 /// LDI, LDD, LDIR and LDDR (UM0080, "Exchange, Block Transfer, and Search Group").

@@ -24,7 +24,8 @@ pub fn commands<S: Sink, W: Out>(
     ensures obeys { ObeysLines (by S.took S.refused) W.took W.refused (lines bytes.now)
         (record { session = session.old; sink = sink.old; text = text.old }) result
         (record { session = session.new; sink = sink.new; text = text.new }) }
-    ensures given { LinesGive (by S.took S.refused) session.old sink.old result session.new sink.new }
+    ensures given { LinesGive (by S.took S.refused) session.old sink.old
+        result session.new sink.new }
 {
     let mut rest = bytes;
     while let Some((line, after)) = first_line(rest) {

@@ -6,7 +6,8 @@ ghost use Rattle.pac_board.specs.State as state;
 ghost use Rattle.pac_debug_text.specs.CommandsProofs.{IsCommandInRange};
 ghost use Rattle.pac_debug_text.specs.Slots.{slot_index};
 ghost use Rattle.pac_debug_session.specs.Session.{has_breakpoint};
-ghost use Rattle.pac_debug.specs.Obeying.{AnswersBack, AnswersReturn, SetsBreakpoint, Stays, kept_at, motion_of};
+ghost use Rattle.pac_debug.specs.Obeying.{AnswersBack, AnswersReturn, SetsBreakpoint, Stays};
+ghost use Rattle.pac_debug.specs.Obeying.{kept_at, motion_of};
 ghost use Rattle.pac_debug.specs.ObeyingProofs.{Obeys, DoesCommand, Moves};
 
 use crate::answer::{Answer, ending_of};
@@ -39,7 +40,8 @@ fn return_to(session: &mut Session, slot: Slot) -> Answer
 
 /// Sets a breakpoint.
 fn set_breakpoint(session: &mut Session, address: u16) -> Answer
-    ensures { SetsBreakpoint session.old address (has_breakpoint session.old address) result session.new }
+    ensures { SetsBreakpoint session.old address
+        (has_breakpoint session.old address) result session.new }
 {
     match session.break_at(address) {
         Ok(()) => Answer::Done,
@@ -121,7 +123,8 @@ pub(crate) fn perform<S: Sink>(
     sink: &mut S,
 ) -> Result<Answer, Refused>
     requires range { IfOk asked IsCommandInRange }
-    ensures { DoesCommand (by S.took S.refused) session.old asked sink.old result session.new sink.new }
+    ensures { DoesCommand (by S.took S.refused) session.old asked sink.old
+        result session.new sink.new }
 {
     session.offer(sink)?;
     obey(session, asked, sink)

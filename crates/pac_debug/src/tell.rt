@@ -21,7 +21,8 @@ fn tell_steps<W: Out>(
     count: u16,
     text: &mut Counted<W>,
 ) -> Result<(), WriteFault>
-    ensures { Puts W.took W.refused text.old (history_text (last_steps session.now count)) result text.new }
+    ensures { Puts W.took W.refused text.old (history_text (last_steps session.now count)) result
+        text.new }
 {
     let (steps, shown) = last_steps(session, count);
     put_history(text, &steps[..shown])

@@ -65,7 +65,8 @@ const MOST_SHOWN: u32 = 256;
 
 /// The only word of a line, if it has one and no more.
 fn only_word(line: &[u8]) -> Option<&[u8]>
-    ensures { option_map (λ word. word.now) result ≡ spec.single_word (λ word. Some word) (words_of_line line.now) }
+    ensures { option_map (λ word. word.now) result
+        ≡ spec.single_word (λ word. Some word) (words_of_line line.now) }
 {
     let (word, rest) = next_word(line)?;
     if next_word(rest).is_some() {
@@ -94,7 +95,8 @@ fn only_number(line: &[u8], most: u32) -> Option<u32>
 
 /// A number from 1 to 256, as the only word of a line.
 fn only_count(line: &[u8]) -> Option<u16>
-    ensures exact { result ≡ spec.single_word (number.number_within spec.most_shown) (words_of_line line.now) }
+    ensures exact { result ≡ spec.single_word (number.number_within spec.most_shown)
+        (words_of_line line.now) }
     ensures within { IfSome result (commands_proofs.IsWithin spec.most_shown) }
 {
     Some(only_number(line, MOST_SHOWN)? as u16)

@@ -61,7 +61,8 @@ fn gather_past_step<W: Out>(
     output: &mut Counted<W>,
     step: HistoryLine,
 ) -> Result<(), WriteFault>
-    ensures { Gathers W.took W.refused pending.old output.old (text.past_step_text step) result pending.new output.new }
+    ensures { Gathers W.took W.refused pending.old output.old (text.past_step_text step)
+        result pending.new output.new }
 {
     let mut index = Buffer::new();
     let done = done_text(step.pc, step.done);
@@ -82,7 +83,8 @@ fn gather_history<W: Out>(
     output: &mut Counted<W>,
     steps: &[HistoryLine],
 ) -> Result<(), WriteFault>
-    ensures { Gathers W.took W.refused pending.old output.old (text.history_text steps.now) result pending.new output.new }
+    ensures { Gathers W.took W.refused pending.old output.old (text.history_text steps.now)
+        result pending.new output.new }
 {
     for step in steps {
         gather_past_step(pending, output, *step)?;

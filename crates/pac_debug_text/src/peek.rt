@@ -28,7 +28,8 @@ fn gather_byte<W: Out>(
     output: &mut Counted<W>,
     byte: u8,
 ) -> Result<(), WriteFault>
-    ensures { Gathers W.took W.refused pending.old output.old (text.spaced_byte byte) result pending.new output.new }
+    ensures { Gathers W.took W.refused pending.old output.old (text.spaced_byte byte)
+        result pending.new output.new }
 {
     let pieces: [&[u8]; 2] = [b" ", &hex_byte(byte)];
     pending.put_pieces(output, &pieces)
@@ -43,7 +44,8 @@ fn gather_bytes<W: Out, P: Peek>(
     count: u16,
 ) -> Result<(), WriteFault>
     ensures { Gathers W.took W.refused pending.old output.old
-        (flat_map text.spaced_byte (text.bytes_from (P.byte_at memory.now) at count)) result pending.new output.new }
+        (flat_map text.spaced_byte (text.bytes_from (P.byte_at memory.now) at count))
+        result pending.new output.new }
 {
     let mut next = at;
     for _ in 0..count {
@@ -59,7 +61,8 @@ fn gather_row_head<W: Out>(
     output: &mut Counted<W>,
     at: u16,
 ) -> Result<(), WriteFault>
-    ensures { Gathers W.took W.refused pending.old output.old (text.row_head at) result pending.new output.new }
+    ensures { Gathers W.took W.refused pending.old output.old (text.row_head at)
+        result pending.new output.new }
 {
     let pieces: [&[u8]; 2] = [&hex_word(at), b":"];
     pending.put_pieces(output, &pieces)
@@ -74,7 +77,8 @@ fn gather_row<W: Out, P: Peek>(
     at: u16,
     count: u16,
 ) -> Result<(), WriteFault>
-    ensures { Gathers W.took W.refused pending.old output.old (text.row_text (P.byte_at memory.now) at count) result pending.new
+    ensures { Gathers W.took W.refused pending.old output.old
+        (text.row_text (P.byte_at memory.now) at count) result pending.new
         output.new }
 {
     gather_row_head(pending, output, at)?;
@@ -90,7 +94,8 @@ fn gather_rows<W: Out, P: Peek>(
     at: u16,
     count: u16,
 ) -> Result<(), WriteFault>
-    ensures { Gathers W.took W.refused pending.old output.old (text.memory_text (P.byte_at memory.now) at count) result pending.new
+    ensures { Gathers W.took W.refused pending.old output.old
+        (text.memory_text (P.byte_at memory.now) at count) result pending.new
         output.new }
 {
     let mut next = at;
@@ -111,7 +116,8 @@ pub fn put_memory<W: Out, P: Peek>(
     at: u16,
     count: u16,
 ) -> Result<(), WriteFault>
-    ensures { Puts W.took W.refused output.old (text.memory_text (P.byte_at memory.now) at count) result output.new }
+    ensures { Puts W.took W.refused output.old
+        (text.memory_text (P.byte_at memory.now) at count) result output.new }
 {
     let mut pending = Pending::new();
     gather_rows(&mut pending, output, memory, at, count)?;
@@ -142,7 +148,8 @@ fn gather_instructions<W: Out, P: Peek>(
     at: u16,
     count: u16,
 ) -> Result<(), WriteFault>
-    ensures { Gathers W.took W.refused pending.old output.old (text.instructions_text (P.byte_at memory.now) count at) result pending.new
+    ensures { Gathers W.took W.refused pending.old output.old
+        (text.instructions_text (P.byte_at memory.now) count at) result pending.new
         output.new }
 {
     let mut next = at;
@@ -162,7 +169,8 @@ pub fn put_instructions<W: Out, P: Peek>(
     at: u16,
     count: u16,
 ) -> Result<(), WriteFault>
-    ensures { Puts W.took W.refused output.old (text.instructions_text (P.byte_at memory.now) count at) result output.new }
+    ensures { Puts W.took W.refused output.old
+        (text.instructions_text (P.byte_at memory.now) count at) result output.new }
 {
     let mut pending = Pending::new();
     gather_instructions(&mut pending, output, memory, at, count)?;

@@ -48,7 +48,8 @@ fn gather_pairs<W: Out>(
     output: &mut Counted<W>,
     regs: &Regs,
 ) -> Result<(), WriteFault>
-    ensures { Gathers W.took W.refused pending.old output.old (text.pairs_text regs.now) result pending.new output.new }
+    ensures { Gathers W.took W.refused pending.old output.old (text.pairs_text regs.now)
+        result pending.new output.new }
 {
     let pieces: [&[u8]; 21] = [
         b"AF=",
@@ -83,7 +84,8 @@ fn gather_alternate<W: Out>(
     output: &mut Counted<W>,
     other: &Alternate,
 ) -> Result<(), WriteFault>
-    ensures { Gathers W.took W.refused pending.old output.old (text.alternate_text other.now) result pending.new output.new }
+    ensures { Gathers W.took W.refused pending.old output.old (text.alternate_text other.now)
+        result pending.new output.new }
 {
     let pieces: [&[u8]; 12] = [
         b"AF'=",
@@ -109,7 +111,8 @@ fn gather_interrupts<W: Out>(
     output: &mut Counted<W>,
     regs: &Regs,
 ) -> Result<(), WriteFault>
-    ensures { Gathers W.took W.refused pending.old output.old (text.interrupts_text regs.now) result pending.new output.new }
+    ensures { Gathers W.took W.refused pending.old output.old (text.interrupts_text regs.now)
+        result pending.new output.new }
 {
     let pieces: [&[u8]; 9] = [
         b" I=",
@@ -132,7 +135,8 @@ fn gather_latches<W: Out>(
     output: &mut Counted<W>,
     latches: Latches,
 ) -> Result<(), WriteFault>
-    ensures { Gathers W.took W.refused pending.old output.old (text.latches_text latches) result pending.new output.new }
+    ensures { Gathers W.took W.refused pending.old output.old (text.latches_text latches)
+        result pending.new output.new }
 {
     let mut watchdog = Buffer::new();
     let pieces: [&[u8]; 7] = [
@@ -154,7 +158,8 @@ fn gather_registers<W: Out>(
     regs: &Regs,
     latches: Latches,
 ) -> Result<(), WriteFault>
-    ensures { Gathers W.took W.refused pending.old output.old (text.registers_text regs.now latches) result pending.new output.new }
+    ensures { Gathers W.took W.refused pending.old output.old (text.registers_text regs.now latches)
+        result pending.new output.new }
 {
     gather_pairs(pending, output, regs)?;
     gather_alternate(pending, output, &regs.alternate)?;
@@ -169,7 +174,8 @@ pub fn put_registers<W: Out>(
     regs: &Regs,
     latches: Latches,
 ) -> Result<(), WriteFault>
-    ensures { Puts W.took W.refused output.old (text.registers_text regs.now latches) result output.new }
+    ensures { Puts W.took W.refused output.old
+        (text.registers_text regs.now latches) result output.new }
 {
     let mut pending = Pending::new();
     gather_registers(&mut pending, output, regs, latches)?;

@@ -48,7 +48,8 @@ pub(crate) fn verb_of(word: &[u8]) -> Option<Verb>
 
 /// The first of some verbs whose name a word is.
 fn found(word: &[u8], names: &[(&[u8], Verb)]) -> Option<Verb>
-    ensures { result ≡ lookup (bytes_eq word.now) (map (λ entry. (entry.0.now, entry.1)) names.now) }
+    ensures { result ≡ lookup (bytes_eq word.now)
+        (map (λ entry. (entry.0.now, entry.1)) names.now) }
 {
     for (name, verb) in names {
         if is_named(word, name) {

@@ -39,7 +39,8 @@ pub fn front(bytes: &[u8]) -> Option<(Instr, u8)>
     // The code found is that of an instruction of the table, and the bytes begin with it; every such instruction is found.
     ensures valid { IfSome result (λ found. IsInstruction found.0) }
     ensures prefix { IfSome result (λ found. Begins (code found.0) bytes.now) }
-    ensures inverse { (i : Instruction) → IsInstruction i → Begins (code i) bytes.now → result ≡ Some (i, length (code i)) }
+    ensures inverse { (i : Instruction) → IsInstruction i → Begins (code i) bytes.now →
+        result ≡ Some (i, length (code i)) }
 {
     let (instr, size) = decode(first_four(bytes))?;
     if usize::from(size) <= bytes.len() {

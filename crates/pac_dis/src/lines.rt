@@ -22,7 +22,8 @@ pub fn put_line<W: Out>(
     bytes: &[u8],
 ) -> Result<u8, WriteFault>
     requires { 0 < length bytes.now }
-    ensures line { Gathers W.took W.refused pending.old file.old (line_text at bytes.now) result pending.new file.new }
+    ensures line { Gathers W.took W.refused pending.old file.old (line_text at bytes.now)
+        result pending.new file.new }
     ensures size { IfOk result (λ size. size ≡ size_at bytes.now) }
     ensures at_least { IfOk result (λ size. 1 ≤ size) }
     ensures within { IfOk result (λ size. size ≤ length bytes.now) }
@@ -47,7 +48,8 @@ fn put_lines<W: Out>(
     file: &mut Counted<W>,
     bytes: &[u8],
 ) -> Result<(), WriteFault>
-    ensures { Gathers W.took W.refused pending.old file.old (disassembly bytes.now) result pending.new file.new }
+    ensures { Gathers W.took W.refused pending.old file.old (disassembly bytes.now)
+        result pending.new file.new }
 {
     let mut rest = bytes;
     let mut at: u16 = 0;

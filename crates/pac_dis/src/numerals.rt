@@ -68,7 +68,8 @@ pub fn put_word(text: &mut Text, word: u16)
 /// Appends a displacement with its sign, as `+05H` or `-80H`.
 #[tactic(auto, unfolding(crate::specs::Numerals::displacement_text))]
 pub fn put_displacement(text: &mut Text, displacement: i8)
-    requires { array_string_len text.old + length (spec.displacement_text displacement) ≤ longest_text }
+    requires { array_string_len text.old + length
+        (spec.displacement_text displacement) ≤ longest_text }
     ensures { text.new.bytes ≡ text.old.bytes ++ spec.displacement_text displacement }
 {
     if displacement >= 0 {

@@ -25,7 +25,8 @@ fn first_field(instr: &Instr) -> u8
 
 /// Appends the address to which a relative jump goes, where its code stands at an address.
 fn put_target(text: &mut Text, at: u16, instr: &Instr)
-    requires { array_string_len text.old + length (spec.number_text at instr.now NumberKind.Target) ≤ longest_text }
+    requires { array_string_len text.old + length
+        (spec.number_text at instr.now NumberKind.Target) ≤ longest_text }
     ensures { text.new.bytes ≡ text.old.bytes ++ spec.number_text at instr.now NumberKind.Target }
 {
     let after = offset(at, u16::from(instr.size()));
@@ -35,7 +36,8 @@ fn put_target(text: &mut Text, at: u16, instr: &Instr)
 /// Appends a number of an instruction whose code stands at an address.
 fn put_number(text: &mut Text, at: u16, instr: &Instr, kind: NumberKind)
     requires shown { IsShown instr.now kind }
-    requires room { array_string_len text.old + length (spec.number_text at instr.now kind) ≤ longest_text }
+    requires room { array_string_len text.old + length
+        (spec.number_text at instr.now kind) ≤ longest_text }
     ensures { text.new.bytes ≡ text.old.bytes ++ spec.number_text at instr.now kind }
 {
     match kind {
@@ -60,7 +62,8 @@ fn put_name(text: &mut Text, name: Option<Name>)
 
 /// Appends a name in parentheses.
 fn put_at_name(text: &mut Text, name: Name)
-    requires { array_string_len text.old + length (spec.in_parentheses (text_of_name name)) ≤ longest_text }
+    requires { array_string_len text.old + length
+        (spec.in_parentheses (text_of_name name)) ≤ longest_text }
     ensures { text.new.bytes ≡ text.old.bytes ++ spec.in_parentheses (text_of_name name) }
 {
     text.push_str("(");
@@ -70,9 +73,11 @@ fn put_at_name(text: &mut Text, name: Name)
 
 /// Appends IX or IY with a displacement, in parentheses.
 fn put_indexed(text: &mut Text, name: Name, displacement: i8)
-    requires { array_string_len text.old + length (spec.in_parentheses (text_of_name name ++ displacement_text displacement)) ≤
+    requires { array_string_len text.old + length
+        (spec.in_parentheses (text_of_name name ++ displacement_text displacement)) ≤
         longest_text }
-    ensures { text.new.bytes ≡ text.old.bytes ++ spec.in_parentheses (text_of_name name ++ displacement_text displacement) }
+    ensures { text.new.bytes ≡ text.old.bytes ++ spec.in_parentheses
+        (text_of_name name ++ displacement_text displacement) }
 {
     text.push_str("(");
     text.push_str(text_of_name(name));
@@ -83,8 +88,10 @@ fn put_indexed(text: &mut Text, name: Name, displacement: i8)
 /// Appends a number in parentheses.
 fn put_at_number(text: &mut Text, at: u16, instr: &Instr, kind: NumberKind)
     requires shown { IsShown instr.now kind }
-    requires room { array_string_len text.old + length (spec.in_parentheses (spec.number_text at instr.now kind)) ≤ longest_text }
-    ensures { text.new.bytes ≡ text.old.bytes ++ spec.in_parentheses (spec.number_text at instr.now kind) }
+    requires room { array_string_len text.old + length
+        (spec.in_parentheses (spec.number_text at instr.now kind)) ≤ longest_text }
+    ensures { text.new.bytes ≡ text.old.bytes ++ spec.in_parentheses
+        (spec.number_text at instr.now kind) }
 {
     text.push_str("(");
     put_number(text, at, instr, kind);
@@ -94,7 +101,8 @@ fn put_at_number(text: &mut Text, at: u16, instr: &Instr, kind: NumberKind)
 /// Appends an operand of a shape.
 fn put_shape(text: &mut Text, at: u16, instr: &Instr, shape: Shape)
     requires shown { ShowsNumbers instr.now shape }
-    requires room { array_string_len text.old + length (spec.operand_text at instr.now shape) ≤ longest_text }
+    requires room { array_string_len text.old + length
+        (spec.operand_text at instr.now shape) ≤ longest_text }
     ensures { text.new.bytes ≡ text.old.bytes ++ spec.operand_text at instr.now shape }
 {
     match shape {
@@ -115,8 +123,10 @@ fn put_operand(text: &mut Text, mark: u8, at: u16, instr: &Instr, shape: Shape)
     requires ascii { mark < 128 }
     requires shown { ShowsNumbers instr.now shape }
     requires room { array_string_len text.old + length
-        (spec.marked_operands mark (map (spec.operand_text at instr.now) (present_shape shape))) ≤ longest_text }
-    ensures { text.new.bytes ≡ text.old.bytes ++ spec.marked_operands mark (map (spec.operand_text at instr.now) (present_shape shape)) }
+        (spec.marked_operands mark (map (spec.operand_text at instr.now)
+        (present_shape shape))) ≤ longest_text }
+    ensures { text.new.bytes ≡ text.old.bytes ++ spec.marked_operands mark
+        (map (spec.operand_text at instr.now) (present_shape shape)) }
 {
     if matches!(shape, Shape::Absent) {
         return;
@@ -129,9 +139,11 @@ fn put_operand(text: &mut Text, mark: u8, at: u16, instr: &Instr, shape: Shape)
 fn put_both(text: &mut Text, at: u16, instr: &Instr, first: Shape, second: Shape)
     requires shown { ShowsEach instr.now (listed_shapes first second) }
     requires room { array_string_len text.old + length
-        (spec.marked_operands spec.blank_code (map (spec.operand_text at instr.now) (listed_shapes first second))) ≤ longest_text }
+        (spec.marked_operands spec.blank_code
+        (map (spec.operand_text at instr.now) (listed_shapes first second))) ≤ longest_text }
     ensures { text.new.bytes ≡ text.old.bytes
-        ++ spec.marked_operands spec.blank_code (map (spec.operand_text at instr.now) (listed_shapes first second)) }
+        ++ spec.marked_operands spec.blank_code
+        (map (spec.operand_text at instr.now) (listed_shapes first second)) }
 {
     if matches!(first, Shape::Absent) {
         return;
@@ -143,9 +155,11 @@ fn put_both(text: &mut Text, at: u16, instr: &Instr, first: Shape, second: Shape
 /// Appends the operands of an instruction whose code stands at an address.
 pub fn put_operands(text: &mut Text, at: u16, instr: &Instr)
     requires valid { IsInstruction instr.now }
-    requires room { array_string_len text.old + length (spec.marked_operands spec.blank_code (spec.operand_texts at instr.now)) ≤
+    requires room { array_string_len text.old + length
+        (spec.marked_operands spec.blank_code (spec.operand_texts at instr.now)) ≤
         longest_text }
-    ensures { text.new.bytes ≡ text.old.bytes ++ spec.marked_operands spec.blank_code (spec.operand_texts at instr.now) }
+    ensures { text.new.bytes ≡ text.old.bytes ++ spec.marked_operands spec.blank_code
+        (spec.operand_texts at instr.now) }
 {
     let (first, second) = written(instr.operands(), instr.p());
     put_both(text, at, instr, first, second);

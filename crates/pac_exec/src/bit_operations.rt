@@ -11,7 +11,8 @@ use pac_table::{BitOperation, BytePlace, Instr};
 /// BIT.
 #[tactic(auto, unfolding(crate::specs::BitOperations::bit_operation_effect))]
 fn test_bit<B: Bus>(place: BytePlace, instr: &Instr, regs: &mut Regs, bus: &B) -> u8
-    ensures { DoesInRegisters (bit_operation_effect (BitOperation.Test place) instr.now regs.old (B.byte_at bus.now)) regs.new result }
+    ensures { DoesInRegisters (bit_operation_effect (BitOperation.Test place) instr.now regs.old
+        (B.byte_at bus.now)) regs.new result }
 {
     let byte = get(place, instr, regs, bus);
     regs.f = pac_alu::test_bit(byte, instr.p(), regs.f);
@@ -21,7 +22,8 @@ fn test_bit<B: Bus>(place: BytePlace, instr: &Instr, regs: &mut Regs, bus: &B) -
 /// RES.
 #[tactic(auto, unfolding(crate::specs::BitOperations::bit_operation_effect))]
 fn reset_bit<B: Bus>(place: BytePlace, instr: &Instr, regs: &mut Regs, bus: &mut B) -> u8
-    ensures { DoesTransition B.after (bit_operation_effect (BitOperation.Reset place) instr.now regs.old (B.byte_at bus.old)) bus.old
+    ensures { DoesTransition B.after (bit_operation_effect (BitOperation.Reset place) instr.now
+        regs.old (B.byte_at bus.old)) bus.old
         regs.new bus.new result }
 {
     let byte = pac_alu::reset_bit(get(place, instr, regs, bus), instr.p());
@@ -31,7 +33,8 @@ fn reset_bit<B: Bus>(place: BytePlace, instr: &Instr, regs: &mut Regs, bus: &mut
 /// SET.
 #[tactic(auto, unfolding(crate::specs::BitOperations::bit_operation_effect))]
 fn set_bit<B: Bus>(place: BytePlace, instr: &Instr, regs: &mut Regs, bus: &mut B) -> u8
-    ensures { DoesTransition B.after (bit_operation_effect (BitOperation.Set place) instr.now regs.old (B.byte_at bus.old)) bus.old
+    ensures { DoesTransition B.after (bit_operation_effect (BitOperation.Set place) instr.now
+        regs.old (B.byte_at bus.old)) bus.old
         regs.new bus.new result }
 {
     let byte = pac_alu::set_bit(get(place, instr, regs, bus), instr.p());
@@ -41,7 +44,8 @@ fn set_bit<B: Bus>(place: BytePlace, instr: &Instr, regs: &mut Regs, bus: &mut B
 /// BIT, RES or SET, by its function; the time in T-states.
 #[tactic(auto, unfolding(crate::specs::BitOperations::bit_operation_effect))]
 pub fn perform_bits<B: Bus>(with: BitOperation, instr: &Instr, regs: &mut Regs, bus: &mut B) -> u8
-    ensures { DoesTransition B.after (bit_operation_effect with instr.now regs.old (B.byte_at bus.old)) bus.old regs.new bus.new result }
+    ensures { DoesTransition B.after (bit_operation_effect with instr.now regs.old
+        (B.byte_at bus.old)) bus.old regs.new bus.new result }
 {
     match with {
         BitOperation::Test(place) => test_bit(place, instr, regs, bus),

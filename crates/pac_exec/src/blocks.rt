@@ -26,7 +26,8 @@ fn moved(direction: Direction, address: u16) -> u16
 
 /// One byte of LDI or LDD; whether another one follows where the instruction repeats.
 fn copy<B: Bus>(direction: Direction, regs: &mut Regs, bus: &mut B) -> bool
-    ensures { DoesIteration B.after (blocks.copy_iteration direction regs.old (B.byte_at bus.old)) bus.old regs.new bus.new result }
+    ensures { DoesIteration B.after (blocks.copy_iteration direction regs.old (B.byte_at bus.old))
+        bus.old regs.new bus.new result }
 {
     let count = decrement_word(regs.bc());
     let byte = bus.read(regs.hl());
@@ -40,7 +41,8 @@ fn copy<B: Bus>(direction: Direction, regs: &mut Regs, bus: &mut B) -> bool
 
 /// One byte of CPI or CPD; whether another one follows where the instruction repeats.
 fn compare<B: Bus>(direction: Direction, regs: &mut Regs, bus: &B) -> bool
-    ensures { DoesIteration B.after (blocks.compare_iteration direction regs.old (B.byte_at bus.now)) bus.now regs.new bus.now result }
+    ensures { DoesIteration B.after (blocks.compare_iteration direction regs.old
+        (B.byte_at bus.now)) bus.now regs.new bus.now result }
 {
     let count = decrement_word(regs.bc());
     let byte = bus.read(regs.hl());
@@ -65,7 +67,8 @@ fn count_byte(direction: Direction, regs: &mut Regs) -> bool
 
 /// One byte of INI or IND; whether another one follows where the instruction repeats.
 fn take_in<B: Bus>(direction: Direction, regs: &mut Regs, bus: &mut B) -> bool
-    ensures { DoesIteration B.after (blocks.port_iteration direction (Write (hl regs.old) (B.input_at bus.old regs.old.c) ∷ []) regs.old)
+    ensures { DoesIteration B.after (blocks.port_iteration direction
+        (Write (hl regs.old) (B.input_at bus.old regs.old.c) ∷ []) regs.old)
         bus.old regs.new bus.new result }
 {
     bus.write(regs.hl(), bus.input(regs.c));
@@ -74,7 +77,8 @@ fn take_in<B: Bus>(direction: Direction, regs: &mut Regs, bus: &mut B) -> bool
 
 /// One byte of OUTI or OUTD; whether another one follows where the instruction repeats.
 fn give_out<B: Bus>(direction: Direction, regs: &mut Regs, bus: &mut B) -> bool
-    ensures { DoesIteration B.after (blocks.port_iteration direction (Output regs.old.c (B.byte_at bus.old (hl regs.old)) ∷ []) regs.old)
+    ensures { DoesIteration B.after (blocks.port_iteration direction
+        (Output regs.old.c (B.byte_at bus.old (hl regs.old)) ∷ []) regs.old)
         bus.old regs.new bus.new result }
 {
     bus.output(regs.c, bus.read(regs.hl()));
@@ -83,7 +87,8 @@ fn give_out<B: Bus>(direction: Direction, regs: &mut Regs, bus: &mut B) -> bool
 
 /// One byte of a block instruction; whether another one follows where the instruction repeats.
 fn iterate<B: Bus>(block: Block, regs: &mut Regs, bus: &mut B) -> bool
-    ensures { DoesIteration B.after (blocks.iteration block.operation block.direction regs.old (B.byte_at bus.old) (B.input_at bus.old))
+    ensures { DoesIteration B.after (blocks.iteration block.operation block.direction regs.old
+        (B.byte_at bus.old) (B.input_at bus.old))
         bus.old regs.new bus.new result }
 {
     match block.operation {
@@ -96,7 +101,8 @@ fn iterate<B: Bus>(block: Block, regs: &mut Regs, bus: &mut B) -> bool
 
 /// A step of a block instruction; its time in T-states.
 pub fn block<B: Bus>(block: Block, instr: &Instr, regs: &mut Regs, bus: &mut B) -> u8
-    ensures { DoesTransition B.after (blocks.block_transition block instr.now regs.old (B.byte_at bus.old) (B.input_at bus.old)) bus.old
+    ensures { DoesTransition B.after (blocks.block_transition block instr.now regs.old
+        (B.byte_at bus.old) (B.input_at bus.old)) bus.old
         regs.new bus.new result }
 {
     let goes_on = iterate(block, regs, bus);

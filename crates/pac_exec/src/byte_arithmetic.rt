@@ -1,8 +1,10 @@
 //! Arithmetic of 8 bits and of the carry (UM0080, "8-Bit Arithmetic Group" and "General-Purpose Arithmetic and CPU Control Groups").
 
 ghost use Rattle.pac_table.specs.Instructions.{ticks_of};
-ghost use Rattle.pac_alu.specs.Arithmetic.{decimal_of, complement_of, negation_of, carry_set_of, carry_flipped_of};
-ghost use Rattle.pac_exec.specs.ByteArithmetic.{byte_arithmetic_effect, outcome_in_accumulator, outcome_in_place};
+ghost use Rattle.pac_alu.specs.Arithmetic.{decimal_of, complement_of, negation_of, carry_set_of};
+ghost use Rattle.pac_alu.specs.Arithmetic.{carry_flipped_of};
+ghost use Rattle.pac_exec.specs.ByteArithmetic.{byte_arithmetic_effect, outcome_in_accumulator};
+ghost use Rattle.pac_exec.specs.ByteArithmetic.{outcome_in_place};
 ghost use Rattle.pac_exec.specs.TransitionProofs.{DoesTransition, DoesInRegisters};
 ghost use Rattle.pac_exec.specs.Transition.{registers_alone};
 
@@ -31,7 +33,8 @@ pub fn put_in_place<B: Bus>(
     regs: &mut Regs,
     bus: &mut B,
 ) -> u8
-    ensures { DoesTransition B.after (outcome_in_place outcome place instr.now regs.old) bus.old regs.new bus.new result }
+    ensures { DoesTransition B.after (outcome_in_place outcome place instr.now regs.old) bus.old
+        regs.new bus.new result }
 {
     put(place, outcome.value, instr, regs, bus);
     regs.f = outcome.f;
@@ -42,7 +45,8 @@ pub fn put_in_place<B: Bus>(
 #[inline(always)]
 #[tactic(auto, unfolding(crate::specs::ByteArithmetic::byte_arithmetic_effect))]
 fn alu<B: Bus>(place: BytePlace, instr: &Instr, regs: &mut Regs, bus: &B) -> u8
-    ensures { DoesInRegisters (byte_arithmetic_effect (ByteArithmetic.Alu place) instr.now regs.old (B.byte_at bus.now)) regs.new result }
+    ensures { DoesInRegisters (byte_arithmetic_effect (ByteArithmetic.Alu place) instr.now regs.old
+        (B.byte_at bus.now)) regs.new result }
 {
     let operand = get(place, instr, regs, bus);
     let operation = ByteOperation::from_field(instr.p());
@@ -54,7 +58,8 @@ fn alu<B: Bus>(place: BytePlace, instr: &Instr, regs: &mut Regs, bus: &B) -> u8
 #[inline(always)]
 #[tactic(auto, unfolding(crate::specs::ByteArithmetic::byte_arithmetic_effect))]
 fn increment<B: Bus>(place: BytePlace, instr: &Instr, regs: &mut Regs, bus: &mut B) -> u8
-    ensures { DoesTransition B.after (byte_arithmetic_effect (ByteArithmetic.Increment place) instr.now regs.old (B.byte_at bus.old))
+    ensures { DoesTransition B.after (byte_arithmetic_effect (ByteArithmetic.Increment place)
+        instr.now regs.old (B.byte_at bus.old))
         bus.old regs.new bus.new result }
 {
     let outcome = pac_alu::increment(get(place, instr, regs, bus), regs.f);
@@ -65,7 +70,8 @@ fn increment<B: Bus>(place: BytePlace, instr: &Instr, regs: &mut Regs, bus: &mut
 #[inline(always)]
 #[tactic(auto, unfolding(crate::specs::ByteArithmetic::byte_arithmetic_effect))]
 fn decrement<B: Bus>(place: BytePlace, instr: &Instr, regs: &mut Regs, bus: &mut B) -> u8
-    ensures { DoesTransition B.after (byte_arithmetic_effect (ByteArithmetic.Decrement place) instr.now regs.old (B.byte_at bus.old))
+    ensures { DoesTransition B.after (byte_arithmetic_effect (ByteArithmetic.Decrement place)
+        instr.now regs.old (B.byte_at bus.old))
         bus.old regs.new bus.new result }
 {
     let outcome = pac_alu::decrement(get(place, instr, regs, bus), regs.f);
@@ -75,7 +81,8 @@ fn decrement<B: Bus>(place: BytePlace, instr: &Instr, regs: &mut Regs, bus: &mut
 /// DAA.
 #[inline(always)]
 fn decimal_adjust(instr: &Instr, regs: &mut Regs) -> u8
-    ensures { DoesInRegisters (outcome_in_accumulator (decimal_of regs.old.a regs.old.f) instr.now regs.old) regs.new result }
+    ensures { DoesInRegisters (outcome_in_accumulator (decimal_of regs.old.a regs.old.f) instr.now
+        regs.old) regs.new result }
 {
     let outcome = pac_alu::decimal_adjust(regs.a, regs.f);
     put_in_accumulator(outcome, instr, regs)
@@ -84,7 +91,8 @@ fn decimal_adjust(instr: &Instr, regs: &mut Regs) -> u8
 /// CPL.
 #[inline(always)]
 fn complement(instr: &Instr, regs: &mut Regs) -> u8
-    ensures { DoesInRegisters (outcome_in_accumulator (complement_of regs.old.a regs.old.f) instr.now regs.old) regs.new result }
+    ensures { DoesInRegisters (outcome_in_accumulator (complement_of regs.old.a regs.old.f)
+        instr.now regs.old) regs.new result }
 {
     let outcome = pac_alu::complement(regs.a, regs.f);
     put_in_accumulator(outcome, instr, regs)
@@ -93,7 +101,8 @@ fn complement(instr: &Instr, regs: &mut Regs) -> u8
 /// NEG.
 #[inline(always)]
 fn negate(instr: &Instr, regs: &mut Regs) -> u8
-    ensures { DoesInRegisters (outcome_in_accumulator (negation_of regs.old.a regs.old.f) instr.now regs.old) regs.new result }
+    ensures { DoesInRegisters (outcome_in_accumulator (negation_of regs.old.a regs.old.f) instr.now
+        regs.old) regs.new result }
 {
     let outcome = pac_alu::negate(regs.a, regs.f);
     put_in_accumulator(outcome, instr, regs)
@@ -102,7 +111,8 @@ fn negate(instr: &Instr, regs: &mut Regs) -> u8
 /// SCF.
 #[inline(always)]
 fn set_carry(instr: &Instr, regs: &mut Regs) -> u8
-    ensures { DoesInRegisters (registers_alone (record regs.old { f = carry_set_of regs.old.f }) (ticks_of instr.now)) regs.new result }
+    ensures { DoesInRegisters (registers_alone (record regs.old { f = carry_set_of regs.old.f })
+        (ticks_of instr.now)) regs.new result }
 {
     regs.f = pac_alu::set_carry(regs.f);
     instr.ticks()
@@ -111,7 +121,8 @@ fn set_carry(instr: &Instr, regs: &mut Regs) -> u8
 /// CCF.
 #[inline(always)]
 fn complement_carry(instr: &Instr, regs: &mut Regs) -> u8
-    ensures { DoesInRegisters (registers_alone (record regs.old { f = carry_flipped_of regs.old.f }) (ticks_of instr.now)) regs.new result }
+    ensures { DoesInRegisters (registers_alone (record regs.old { f = carry_flipped_of regs.old.f })
+        (ticks_of instr.now)) regs.new result }
 {
     regs.f = pac_alu::complement_carry(regs.f);
     instr.ticks()
@@ -126,7 +137,8 @@ pub fn perform_byte_arithmetic<B: Bus>(
     regs: &mut Regs,
     bus: &mut B,
 ) -> u8
-    ensures { DoesTransition B.after (byte_arithmetic_effect with instr.now regs.old (B.byte_at bus.old)) bus.old regs.new bus.new result }
+    ensures { DoesTransition B.after (byte_arithmetic_effect with instr.now regs.old
+        (B.byte_at bus.old)) bus.old regs.new bus.new result }
 {
     match with {
         ByteArithmetic::Alu(place) => alu(place, instr, regs, bus),

@@ -21,7 +21,8 @@ pub fn load<B: Bus>(
     regs: &mut Regs,
     bus: &mut B,
 ) -> u8
-    ensures { DoesTransition B.after (byte_load_effect (ByteLoad.Load to from) instr.now regs.old (B.byte_at bus.old)) bus.old regs.new
+    ensures { DoesTransition B.after (byte_load_effect (ByteLoad.Load to from) instr.now regs.old
+        (B.byte_at bus.old)) bus.old regs.new
         bus.new result }
 {
     let byte = get(from, instr, regs, bus);
@@ -46,7 +47,8 @@ fn load_from_special(special: Special, instr: &Instr, regs: &mut Regs) -> u8
 
 /// LD I,A and LD R,A, which sets all eight bits of R.
 fn load_special(special: Special, instr: &Instr, regs: &mut Regs) -> u8
-    ensures { DoesInRegisters (registers_alone (with_special special regs.old regs.old.a) (ticks_of instr.now)) regs.new result }
+    ensures { DoesInRegisters (registers_alone (with_special special regs.old regs.old.a)
+        (ticks_of instr.now)) regs.new result }
 {
     match special {
         Special::Interrupt => regs.i = regs.a,
@@ -59,7 +61,8 @@ fn load_special(special: Special, instr: &Instr, regs: &mut Regs) -> u8
 #[inline(always)]
 #[tactic(auto, unfolding(crate::specs::ByteLoads::byte_load_effect))]
 pub fn perform_byte_load<B: Bus>(with: ByteLoad, instr: &Instr, regs: &mut Regs, bus: &mut B) -> u8
-    ensures { DoesTransition B.after (byte_load_effect with instr.now regs.old (B.byte_at bus.old)) bus.old regs.new bus.new result }
+    ensures { DoesTransition B.after (byte_load_effect with instr.now regs.old (B.byte_at bus.old))
+        bus.old regs.new bus.new result }
 {
     match with {
         ByteLoad::Load(to, from) => load(to, from, instr, regs, bus),

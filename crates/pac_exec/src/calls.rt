@@ -13,7 +13,8 @@ use pac_table::{Call, Instr};
 /// Pushes PC and goes to an address.
 #[inline(always)]
 fn call_address<B: Bus>(address: u16, instr: &Instr, regs: &mut Regs, bus: &mut B) -> u8
-    ensures { DoesTransition B.after (call_to_address address instr.now regs.old) bus.old regs.new bus.new result }
+    ensures { DoesTransition B.after (call_to_address address instr.now regs.old) bus.old
+        regs.new bus.new result }
 {
     push_word(regs.pc, regs, bus);
     regs.pc = address;
@@ -23,7 +24,8 @@ fn call_address<B: Bus>(address: u16, instr: &Instr, regs: &mut Regs, bus: &mut 
 /// CALL nn.
 #[inline(always)]
 fn call<B: Bus>(instr: &Instr, regs: &mut Regs, bus: &mut B) -> u8
-    ensures { DoesTransition B.after (call_to_address instr.now.word instr.now regs.old) bus.old regs.new bus.new result }
+    ensures { DoesTransition B.after (call_to_address instr.now.word instr.now regs.old) bus.old
+        regs.new bus.new result }
 {
     call_address(instr.word(), instr, regs, bus)
 }
@@ -32,7 +34,8 @@ fn call<B: Bus>(instr: &Instr, regs: &mut Regs, bus: &mut B) -> u8
 #[inline(always)]
 #[tactic(auto, unfolding(crate::specs::Calls::call_effect))]
 fn call_if<B: Bus>(instr: &Instr, regs: &mut Regs, bus: &mut B) -> u8
-    ensures { DoesTransition B.after (call_effect Call.If instr.now regs.old (B.byte_at bus.old)) bus.old regs.new bus.new result }
+    ensures { DoesTransition B.after (call_effect Call.If instr.now regs.old (B.byte_at bus.old))
+        bus.old regs.new bus.new result }
 {
     if meets_condition(instr, regs) {
         call(instr, regs, bus)
@@ -44,7 +47,8 @@ fn call_if<B: Bus>(instr: &Instr, regs: &mut Regs, bus: &mut B) -> u8
 /// RST p.
 #[inline(always)]
 fn restart<B: Bus>(instr: &Instr, regs: &mut Regs, bus: &mut B) -> u8
-    ensures { DoesTransition B.after (call_to_address (8 * instr.now.p) instr.now regs.old) bus.old regs.new bus.new result }
+    ensures { DoesTransition B.after (call_to_address (8 * instr.now.p) instr.now regs.old) bus.old
+        regs.new bus.new result }
 {
     call_address(8 * instr.p() as u16, instr, regs, bus)
 }
@@ -52,7 +56,8 @@ fn restart<B: Bus>(instr: &Instr, regs: &mut Regs, bus: &mut B) -> u8
 /// RET, and RETI: in this profile both interrupt flip-flops stay.
 #[inline(always)]
 fn return_to_caller<B: Bus>(instr: &Instr, regs: &mut Regs, bus: &B) -> u8
-    ensures { DoesInRegisters (return_transition instr.now regs.old (B.byte_at bus.now)) regs.new result }
+    ensures { DoesInRegisters (return_transition instr.now regs.old (B.byte_at bus.now)) regs.new
+        result }
 {
     regs.pc = pop_word(regs, bus);
     instr.ticks()
@@ -62,7 +67,8 @@ fn return_to_caller<B: Bus>(instr: &Instr, regs: &mut Regs, bus: &B) -> u8
 #[inline(always)]
 #[tactic(auto, unfolding(crate::specs::Calls::call_effect))]
 fn return_if<B: Bus>(instr: &Instr, regs: &mut Regs, bus: &B) -> u8
-    ensures { DoesInRegisters (call_effect Call.ReturnIf instr.now regs.old (B.byte_at bus.now)) regs.new result }
+    ensures { DoesInRegisters (call_effect Call.ReturnIf instr.now regs.old (B.byte_at bus.now))
+        regs.new result }
 {
     if meets_condition(instr, regs) {
         return_to_caller(instr, regs, bus)
@@ -75,7 +81,8 @@ fn return_if<B: Bus>(instr: &Instr, regs: &mut Regs, bus: &B) -> u8
 #[inline(always)]
 #[tactic(auto, unfolding(crate::specs::Calls::call_effect))]
 fn return_from_non_maskable<B: Bus>(instr: &Instr, regs: &mut Regs, bus: &B) -> u8
-    ensures { DoesInRegisters (call_effect Call.ReturnFromNonMaskable instr.now regs.old (B.byte_at bus.now)) regs.new result }
+    ensures { DoesInRegisters (call_effect Call.ReturnFromNonMaskable instr.now regs.old
+        (B.byte_at bus.now)) regs.new result }
 {
     regs.iff1 = regs.iff2;
     return_to_caller(instr, regs, bus)
@@ -85,7 +92,8 @@ fn return_from_non_maskable<B: Bus>(instr: &Instr, regs: &mut Regs, bus: &B) -> 
 #[inline(always)]
 #[tactic(auto, unfolding(crate::specs::Calls::call_effect))]
 pub fn perform_call<B: Bus>(with: Call, instr: &Instr, regs: &mut Regs, bus: &mut B) -> u8
-    ensures { DoesTransition B.after (call_effect with instr.now regs.old (B.byte_at bus.old)) bus.old regs.new bus.new result }
+    ensures { DoesTransition B.after (call_effect with instr.now regs.old (B.byte_at bus.old))
+        bus.old regs.new bus.new result }
 {
     match with {
         Call::Always => call(instr, regs, bus),

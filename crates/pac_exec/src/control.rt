@@ -10,7 +10,8 @@ use pac_table::{Control, Instr, InterruptMode};
 
 /// HALT.
 fn halt(instr: &Instr, regs: &mut Regs) -> u8
-    ensures { DoesInRegisters (registers_alone (controlled_regs Control.Halt regs.old) (ticks_of instr.now)) regs.new result }
+    ensures { DoesInRegisters (registers_alone (controlled_regs Control.Halt regs.old)
+        (ticks_of instr.now)) regs.new result }
 {
     regs.halted = true;
     instr.ticks()
@@ -18,7 +19,8 @@ fn halt(instr: &Instr, regs: &mut Regs) -> u8
 
 /// DI.
 fn disable_interrupts(instr: &Instr, regs: &mut Regs) -> u8
-    ensures { DoesInRegisters (registers_alone (controlled_regs Control.DisableInterrupts regs.old) (ticks_of instr.now)) regs.new result }
+    ensures { DoesInRegisters (registers_alone (controlled_regs Control.DisableInterrupts regs.old)
+        (ticks_of instr.now)) regs.new result }
 {
     regs.iff1 = false;
     regs.iff2 = false;
@@ -27,7 +29,8 @@ fn disable_interrupts(instr: &Instr, regs: &mut Regs) -> u8
 
 /// EI.
 fn enable_interrupts(instr: &Instr, regs: &mut Regs) -> u8
-    ensures { DoesInRegisters (registers_alone (controlled_regs Control.EnableInterrupts regs.old) (ticks_of instr.now)) regs.new result }
+    ensures { DoesInRegisters (registers_alone (controlled_regs Control.EnableInterrupts regs.old)
+        (ticks_of instr.now)) regs.new result }
 {
     regs.iff1 = true;
     regs.iff2 = true;
@@ -37,7 +40,8 @@ fn enable_interrupts(instr: &Instr, regs: &mut Regs) -> u8
 
 /// IM.
 fn set_interrupt_mode(mode: InterruptMode, instr: &Instr, regs: &mut Regs) -> u8
-    ensures { DoesInRegisters (registers_alone (controlled_regs (Control.SetInterruptMode mode) regs.old) (ticks_of instr.now)) regs.new
+    ensures { DoesInRegisters (registers_alone
+        (controlled_regs (Control.SetInterruptMode mode) regs.old) (ticks_of instr.now)) regs.new
         result }
 {
     regs.mode = mode;

@@ -15,7 +15,8 @@ use std::mem::swap;
 
 /// EX DE,HL.
 fn exchange_de_hl(instr: &Instr, regs: &mut Regs) -> u8
-    ensures { DoesInRegisters (registers_alone (record regs.old { d = regs.old.h; e = regs.old.l; h = regs.old.d; l = regs.old.e })
+    ensures { DoesInRegisters (registers_alone
+        (record regs.old { d = regs.old.h; e = regs.old.l; h = regs.old.d; l = regs.old.e })
         (ticks_of instr.now)) regs.new result }
 {
     swap(&mut regs.d, &mut regs.h);
@@ -25,7 +26,8 @@ fn exchange_de_hl(instr: &Instr, regs: &mut Regs) -> u8
 
 /// EX AF,AF'.
 fn exchange_af(instr: &Instr, regs: &mut Regs) -> u8
-    ensures { DoesInRegisters (registers_alone (with_other_af regs.old) (ticks_of instr.now)) regs.new result }
+    ensures { DoesInRegisters (registers_alone (with_other_af regs.old) (ticks_of instr.now))
+        regs.new result }
 {
     regs.exchange_af();
     instr.ticks()
@@ -33,7 +35,8 @@ fn exchange_af(instr: &Instr, regs: &mut Regs) -> u8
 
 /// EXX.
 fn exchange_banks(instr: &Instr, regs: &mut Regs) -> u8
-    ensures { DoesInRegisters (registers_alone (with_other_bank regs.old) (ticks_of instr.now)) regs.new result }
+    ensures { DoesInRegisters (registers_alone (with_other_bank regs.old) (ticks_of instr.now))
+        regs.new result }
 {
     regs.exchange_bank();
     instr.ticks()
@@ -42,7 +45,8 @@ fn exchange_banks(instr: &Instr, regs: &mut Regs) -> u8
 /// EX (SP),HL.
 #[tactic(auto, unfolding(crate::specs::Exchanges::exchange_effect))]
 fn exchange_stack_top<B: Bus>(pair: Pair, instr: &Instr, regs: &mut Regs, bus: &mut B) -> u8
-    ensures { DoesTransition B.after (exchange_effect (Exchange.StackTop pair) instr.now regs.old (B.byte_at bus.old)) bus.old regs.new
+    ensures { DoesTransition B.after (exchange_effect (Exchange.StackTop pair) instr.now regs.old
+        (B.byte_at bus.old)) bus.old regs.new
         bus.new
         result }
 {
@@ -57,7 +61,8 @@ fn exchange_stack_top<B: Bus>(pair: Pair, instr: &Instr, regs: &mut Regs, bus: &
 /// An exchange, by its function; the time in T-states.
 #[tactic(auto, unfolding(crate::specs::Exchanges::exchange_effect))]
 pub fn perform_exchange<B: Bus>(with: Exchange, instr: &Instr, regs: &mut Regs, bus: &mut B) -> u8
-    ensures { DoesTransition B.after (exchange_effect with instr.now regs.old (B.byte_at bus.old)) bus.old regs.new bus.new result }
+    ensures { DoesTransition B.after (exchange_effect with instr.now regs.old (B.byte_at bus.old))
+        bus.old regs.new bus.new result }
 {
     match with {
         Exchange::DeHl => exchange_de_hl(instr, regs),

@@ -77,7 +77,8 @@ fn jump_relative_if(instr: &Instr, regs: &mut Regs) -> u8
 #[inline(always)]
 #[tactic(auto, unfolding(crate::specs::Jumps::jump_effect))]
 fn decrement_and_jump(instr: &Instr, regs: &mut Regs) -> u8
-    ensures { DoesInRegisters (jump_effect Jump.DecrementAndJump instr.now regs.old) regs.new result }
+    ensures { DoesInRegisters (jump_effect Jump.DecrementAndJump instr.now regs.old) regs.new
+        result }
 {
     regs.b = b_left(regs);
     if regs.b != 0 {

@@ -44,7 +44,8 @@ pub(crate) fn get<B: Bus>(place: BytePlace, instr: &Instr, regs: &Regs, bus: &B)
 #[inline(always)]
 pub(crate) fn put<B: Bus>(place: BytePlace, byte: u8, instr: &Instr, regs: &mut Regs, bus: &mut B)
     ensures regs { regs.new ≡ regs_with place instr.now regs.old byte }
-    ensures bus { bus.new ≡ bus_after_actions B.after bus.old (writes_to place instr.now regs.old byte) }
+    ensures bus { bus.new ≡ bus_after_actions B.after bus.old
+        (writes_to place instr.now regs.old byte) }
 {
     match place {
         BytePlace::First => regs.set_register(instr.p(), byte),
@@ -64,7 +65,8 @@ pub(crate) fn put_byte<B: Bus>(
     regs: &mut Regs,
     bus: &mut B,
 ) -> u8
-    ensures { DoesTransition B.after (byte_put byte place instr.now regs.old) bus.old regs.new bus.new result }
+    ensures { DoesTransition B.after (byte_put byte place instr.now regs.old) bus.old
+        regs.new bus.new result }
 {
     put(place, byte, instr, regs, bus);
     instr.ticks()

@@ -27,7 +27,8 @@ fn shift_of_rotation(rotation: Rotation) -> Shift
 
 /// RLCA, RRCA, RLA and RRA.
 fn rotate_accumulator(rotation: Rotation, instr: &Instr, regs: &mut Regs) -> u8
-    ensures { DoesInRegisters (outcome_in_accumulator (accumulator_rotation_of (named_after rotation) regs.old.a regs.old.f) instr.now
+    ensures { DoesInRegisters (outcome_in_accumulator
+        (accumulator_rotation_of (named_after rotation) regs.old.a regs.old.f) instr.now
         regs.old) regs.new result }
 {
     let outcome = pac_alu::rotate_accumulator(shift_of_rotation(rotation), regs.a, regs.f);
@@ -37,7 +38,8 @@ fn rotate_accumulator(rotation: Rotation, instr: &Instr, regs: &mut Regs) -> u8
 /// RLC, RRC, RL, RR, SLA, SRA and SRL.
 #[tactic(auto, unfolding(crate::specs::Shifts::rotate_and_shift_effect))]
 fn shift<B: Bus>(place: BytePlace, instr: &Instr, regs: &mut Regs, bus: &mut B) -> u8
-    ensures { DoesTransition B.after (rotate_and_shift_effect (RotateAndShift.Shift place) instr.now regs.old (B.byte_at bus.old)) bus.old
+    ensures { DoesTransition B.after (rotate_and_shift_effect (RotateAndShift.Shift place) instr.now
+        regs.old (B.byte_at bus.old)) bus.old
         regs.new bus.new result }
 {
     let byte = get(place, instr, regs, bus);
@@ -47,7 +49,8 @@ fn shift<B: Bus>(place: BytePlace, instr: &Instr, regs: &mut Regs, bus: &mut B) 
 
 /// Puts rotated digits into A, F and the cell at HL; the instruction's time in T-states.
 fn put_digits<B: Bus>(digits: Digits, instr: &Instr, regs: &mut Regs, bus: &mut B) -> u8
-    ensures { DoesTransition B.after (in_digits digits instr.now regs.old) bus.old regs.new bus.new result }
+    ensures { DoesTransition B.after (in_digits digits instr.now regs.old) bus.old
+        regs.new bus.new result }
 {
     bus.write(regs.hl(), digits.memory);
     regs.a = digits.a;
@@ -58,7 +61,8 @@ fn put_digits<B: Bus>(digits: Digits, instr: &Instr, regs: &mut Regs, bus: &mut 
 /// RLD.
 #[tactic(auto, unfolding(crate::specs::Shifts::rotate_and_shift_effect))]
 fn rotate_digit_left<B: Bus>(instr: &Instr, regs: &mut Regs, bus: &mut B) -> u8
-    ensures { DoesTransition B.after (rotate_and_shift_effect RotateAndShift.RotateDigitLeft instr.now regs.old (B.byte_at bus.old))
+    ensures { DoesTransition B.after (rotate_and_shift_effect RotateAndShift.RotateDigitLeft
+        instr.now regs.old (B.byte_at bus.old))
         bus.old regs.new bus.new result }
 {
     let digits = pac_alu::rotate_digits_left(regs.a, bus.read(regs.hl()), regs.f);
@@ -68,7 +72,8 @@ fn rotate_digit_left<B: Bus>(instr: &Instr, regs: &mut Regs, bus: &mut B) -> u8
 /// RRD.
 #[tactic(auto, unfolding(crate::specs::Shifts::rotate_and_shift_effect))]
 fn rotate_digit_right<B: Bus>(instr: &Instr, regs: &mut Regs, bus: &mut B) -> u8
-    ensures { DoesTransition B.after (rotate_and_shift_effect RotateAndShift.RotateDigitRight instr.now regs.old (B.byte_at bus.old))
+    ensures { DoesTransition B.after (rotate_and_shift_effect RotateAndShift.RotateDigitRight
+        instr.now regs.old (B.byte_at bus.old))
         bus.old regs.new bus.new
         result }
 {
@@ -84,7 +89,8 @@ pub fn perform_rotate_and_shift<B: Bus>(
     regs: &mut Regs,
     bus: &mut B,
 ) -> u8
-    ensures { DoesTransition B.after (rotate_and_shift_effect with instr.now regs.old (B.byte_at bus.old)) bus.old regs.new bus.new result }
+    ensures { DoesTransition B.after (rotate_and_shift_effect with instr.now regs.old
+        (B.byte_at bus.old)) bus.old regs.new bus.new result }
 {
     match with {
         RotateAndShift::RotateAccumulator(rotation) => rotate_accumulator(rotation, instr, regs),

@@ -35,7 +35,8 @@ fn put_in_pair(outcome: WordOutcome, pair: Pair, instr: &Instr, regs: &mut Regs)
 #[inline(always)]
 #[tactic(auto, unfolding(crate::specs::WordArithmetic::word_arithmetic_effect))]
 fn add_pair(pair: Pair, instr: &Instr, regs: &mut Regs) -> u8
-    ensures { DoesInRegisters (word_arithmetic_effect (WordArithmetic.AddPair pair) instr.now regs.old) regs.new result }
+    ensures { DoesInRegisters (word_arithmetic_effect (WordArithmetic.AddPair pair) instr.now
+        regs.old) regs.new result }
 {
     let word = get_pair(pair, instr, regs);
     let sum = pac_alu::add_words(word, addend_of(pair, instr, regs), regs.f);
@@ -46,7 +47,8 @@ fn add_pair(pair: Pair, instr: &Instr, regs: &mut Regs) -> u8
 #[inline(always)]
 #[tactic(auto, unfolding(crate::specs::WordArithmetic::word_arithmetic_effect))]
 fn add_pair_with_carry(instr: &Instr, regs: &mut Regs) -> u8
-    ensures { DoesInRegisters (word_arithmetic_effect WordArithmetic.AddPairWithCarry instr.now regs.old) regs.new result }
+    ensures { DoesInRegisters (word_arithmetic_effect WordArithmetic.AddPairWithCarry instr.now
+        regs.old) regs.new result }
 {
     let sum = pac_alu::add_words_with_carry(regs.hl(), regs.pair(instr.p()), regs.f);
     put_in_pair(sum, Pair::Hl, instr, regs)
@@ -56,7 +58,8 @@ fn add_pair_with_carry(instr: &Instr, regs: &mut Regs) -> u8
 #[inline(always)]
 #[tactic(auto, unfolding(crate::specs::WordArithmetic::word_arithmetic_effect))]
 fn subtract_pair_with_carry(instr: &Instr, regs: &mut Regs) -> u8
-    ensures { DoesInRegisters (word_arithmetic_effect WordArithmetic.SubtractPairWithCarry instr.now regs.old) regs.new result }
+    ensures { DoesInRegisters (word_arithmetic_effect WordArithmetic.SubtractPairWithCarry instr.now
+        regs.old) regs.new result }
 {
     let difference = pac_alu::subtract_words_with_carry(regs.hl(), regs.pair(instr.p()), regs.f);
     put_in_pair(difference, Pair::Hl, instr, regs)
@@ -66,7 +69,8 @@ fn subtract_pair_with_carry(instr: &Instr, regs: &mut Regs) -> u8
 #[inline(always)]
 #[tactic(auto, unfolding(crate::specs::WordArithmetic::word_arithmetic_effect))]
 fn increment_pair(pair: Pair, instr: &Instr, regs: &mut Regs) -> u8
-    ensures { DoesInRegisters (word_arithmetic_effect (WordArithmetic.IncrementPair pair) instr.now regs.old) regs.new result }
+    ensures { DoesInRegisters (word_arithmetic_effect (WordArithmetic.IncrementPair pair) instr.now
+        regs.old) regs.new result }
 {
     let word = pac_alu::increment_word(get_pair(pair, instr, regs));
     set_pair(pair, word, instr, regs);
@@ -77,7 +81,8 @@ fn increment_pair(pair: Pair, instr: &Instr, regs: &mut Regs) -> u8
 #[inline(always)]
 #[tactic(auto, unfolding(crate::specs::WordArithmetic::word_arithmetic_effect))]
 fn decrement_pair(pair: Pair, instr: &Instr, regs: &mut Regs) -> u8
-    ensures { DoesInRegisters (word_arithmetic_effect (WordArithmetic.DecrementPair pair) instr.now regs.old) regs.new result }
+    ensures { DoesInRegisters (word_arithmetic_effect (WordArithmetic.DecrementPair pair) instr.now
+        regs.old) regs.new result }
 {
     let word = pac_alu::decrement_word(get_pair(pair, instr, regs));
     set_pair(pair, word, instr, regs);

@@ -17,7 +17,8 @@ use pac_table::{Instr, Pair, WordLoad};
 /// LD dd,nn.
 #[inline(always)]
 fn load_pair(pair: Pair, instr: &Instr, regs: &mut Regs) -> u8
-    ensures { DoesInRegisters (registers_alone (with_pair pair instr.now regs.old instr.now.word) (ticks_of instr.now)) regs.new result }
+    ensures { DoesInRegisters (registers_alone (with_pair pair instr.now regs.old instr.now.word)
+        (ticks_of instr.now)) regs.new result }
 {
     set_pair(pair, instr.word(), instr, regs);
     instr.ticks()
@@ -27,7 +28,8 @@ fn load_pair(pair: Pair, instr: &Instr, regs: &mut Regs) -> u8
 #[inline(always)]
 #[tactic(auto, unfolding(crate::specs::WordLoads::word_load_effect))]
 fn load_pair_from_memory<B: Bus>(pair: Pair, instr: &Instr, regs: &mut Regs, bus: &B) -> u8
-    ensures { DoesInRegisters (word_load_effect (WordLoad.LoadPairFromMemory pair) instr.now regs.old (B.byte_at bus.now)) regs.new result }
+    ensures { DoesInRegisters (word_load_effect (WordLoad.LoadPairFromMemory pair) instr.now
+        regs.old (B.byte_at bus.now)) regs.new result }
 {
     set_pair(pair, read_word(instr.word(), bus), instr, regs);
     instr.ticks()
@@ -37,7 +39,8 @@ fn load_pair_from_memory<B: Bus>(pair: Pair, instr: &Instr, regs: &mut Regs, bus
 #[inline(always)]
 #[tactic(auto, unfolding(crate::specs::WordLoads::word_load_effect))]
 fn store_pair<B: Bus>(pair: Pair, instr: &Instr, regs: &Regs, bus: &mut B) -> u8
-    ensures { DoesTransition B.after (word_load_effect (WordLoad.StorePair pair) instr.now regs.now (B.byte_at bus.old)) bus.old regs.now
+    ensures { DoesTransition B.after (word_load_effect (WordLoad.StorePair pair) instr.now regs.now
+        (B.byte_at bus.old)) bus.old regs.now
         bus.new result }
 {
     let word = get_pair(pair, instr, regs);
@@ -49,7 +52,8 @@ fn store_pair<B: Bus>(pair: Pair, instr: &Instr, regs: &Regs, bus: &mut B) -> u8
 /// LD SP,HL.
 #[inline(always)]
 fn load_stack_pointer(pair: Pair, instr: &Instr, regs: &mut Regs) -> u8
-    ensures { DoesInRegisters (registers_alone (record regs.old { sp = pair_value pair instr.now regs.old }) (ticks_of instr.now))
+    ensures { DoesInRegisters (registers_alone
+        (record regs.old { sp = pair_value pair instr.now regs.old }) (ticks_of instr.now))
         regs.new result }
 {
     regs.sp = get_pair(pair, instr, regs);
@@ -60,7 +64,8 @@ fn load_stack_pointer(pair: Pair, instr: &Instr, regs: &mut Regs) -> u8
 #[inline(always)]
 #[tactic(auto, unfolding(crate::specs::WordLoads::word_load_effect))]
 fn push<B: Bus>(pair: Pair, instr: &Instr, regs: &mut Regs, bus: &mut B) -> u8
-    ensures { DoesTransition B.after (word_load_effect (WordLoad.Push pair) instr.now regs.old (B.byte_at bus.old)) bus.old regs.new
+    ensures { DoesTransition B.after (word_load_effect (WordLoad.Push pair) instr.now regs.old
+        (B.byte_at bus.old)) bus.old regs.new
         bus.new result }
 {
     push_word(get_stack_pair(pair, instr, regs), regs, bus);
@@ -71,7 +76,8 @@ fn push<B: Bus>(pair: Pair, instr: &Instr, regs: &mut Regs, bus: &mut B) -> u8
 #[inline(always)]
 #[tactic(auto, unfolding(crate::specs::WordLoads::word_load_effect))]
 fn pop<B: Bus>(pair: Pair, instr: &Instr, regs: &mut Regs, bus: &B) -> u8
-    ensures { DoesInRegisters (word_load_effect (WordLoad.Pop pair) instr.now regs.old (B.byte_at bus.now)) regs.new result }
+    ensures { DoesInRegisters (word_load_effect (WordLoad.Pop pair) instr.now regs.old
+        (B.byte_at bus.now)) regs.new result }
 {
     set_stack_pair(pair, pop_word(regs, bus), instr, regs);
     instr.ticks()
@@ -81,7 +87,8 @@ fn pop<B: Bus>(pair: Pair, instr: &Instr, regs: &mut Regs, bus: &B) -> u8
 #[inline(always)]
 #[tactic(auto, unfolding(crate::specs::WordLoads::word_load_effect))]
 pub fn perform_word_load<B: Bus>(with: WordLoad, instr: &Instr, regs: &mut Regs, bus: &mut B) -> u8
-    ensures { DoesTransition B.after (word_load_effect with instr.now regs.old (B.byte_at bus.old)) bus.old regs.new bus.new result }
+    ensures { DoesTransition B.after (word_load_effect with instr.now regs.old (B.byte_at bus.old))
+        bus.old regs.new bus.new result }
 {
     match with {
         WordLoad::LoadPair(pair) => load_pair(pair, instr, regs),

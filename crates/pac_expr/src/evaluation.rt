@@ -2,7 +2,8 @@
 
 ghost use Rattle.std.specs.Prelude.{◌≡◌, ℕ, ℤ, List, Option, Some};
 ghost use Rattle.pac_expr.specs.TreesProofs.{atom_of};
-ghost use Rattle.pac_expr.specs.Values.{atom_value, sign_value, joined_value, operator_value, first_value_error};
+ghost use Rattle.pac_expr.specs.Values.{atom_value, sign_value, joined_value, operator_value};
+ghost use Rattle.pac_expr.specs.Values.{first_value_error};
 
 use crate::expr::{Operator, Primary, Sign};
 use std::fmt;

@@ -1,6 +1,7 @@
 //! The value of an expression, straight from its tokens.
 
-ghost use Rattle.std.specs.Prelude.{◌≡◌, ◌↔◌, ◌<◌, ◌≤◌, ◌-◌, ◌∷◌, List, Some, Err, length, option_map, IfSome, MatchOption};
+ghost use Rattle.std.specs.Prelude.{◌≡◌, ◌↔◌, ◌<◌, ◌≤◌, ◌-◌, ◌∷◌, List, Some, Err, length};
+ghost use Rattle.std.specs.Prelude.{option_map, IfSome, MatchOption};
 ghost use Rattle.pac_lex.specs.TokensProofs.{views};
 ghost use Rattle.pac_expr.specs.Trees.{Mark, Tree, closing, arithmetic, rank_of_operator};
 ghost use Rattle.pac_expr.specs.TreesProofs.{IsExpression, atom_of, token_mark, token_marks};
@@ -8,7 +9,8 @@ ghost use Rattle.pac_expr.specs.Parsing.{tree_in};
 ghost use Rattle.pac_expr.specs.Values.{tree_value};
 ghost use Rattle.pac_expr.specs.ValuesLaws.{HasUndefined};
 ghost use Rattle.pac_expr.specs.ValuesProofs.{HasValue};
-ghost use Rattle.pac_expr.specs.Reading.{BeginsWithTree, EndsTree, BeginsNoTree, atom_in, is_closing, operator_in};
+ghost use Rattle.pac_expr.specs.Reading.{BeginsWithTree, EndsTree, BeginsNoTree, atom_in};
+ghost use Rattle.pac_expr.specs.Reading.{is_closing, operator_in};
 
 use crate::evaluation::{SymbolLookup, ValueError, joined, operand_value, signed};
 use crate::expr::{Operator, Primary, SUM_RANK, Sign, operator_rank};
@@ -26,9 +28,11 @@ pub fn value<S: SymbolLookup>(
     // The value found is that of a tree which the tokens spell.
     ensures found { IfSome result (HasValue (S.lookup symbols.now) here expr.now) }
     // No tree that they spell has another one, and `None` means that they spell none.
-    ensures only { (t : Tree) → IsExpression expr.now t → result ≡ Some (tree_value (S.lookup symbols.now) here t) }
+    ensures only { (t : Tree) → IsExpression expr.now t →
+        result ≡ Some (tree_value (S.lookup symbols.now) here t) }
     // Which value, as a function of the tokens.
-    ensures exact { result ≡ option_map (tree_value (S.lookup symbols.now) here) (tree_in (views expr.now)) }
+    ensures exact { result ≡ option_map (tree_value (S.lookup symbols.now) here)
+        (tree_in (views expr.now)) }
     // E1 comes exactly where some name of the tree isn't defined, whatever else is wrong.
     ensures undefined { (result ≡ Some (Err ValueError.Undefined))
         ↔ MatchOption (tree_in (views expr.now)) ⊥ (HasUndefined (S.lookup symbols.now)) }
@@ -42,7 +46,8 @@ fn evaluated<S: SymbolLookup>(
     symbols: &S,
     here: u16,
 ) -> Option<Result<i32, ValueError>>
-    ensures { result ≡ option_map (tree_value (S.lookup symbols.now) here) (tree_in (views tokens.now)) }
+    ensures { result ≡ option_map (tree_value (S.lookup symbols.now) here)
+        (tree_in (views tokens.now)) }
 {
     let (value, rest) = part(SUM_RANK, tokens, symbols, here)?;
     if rest.is_empty() { Some(value) } else { None }
@@ -58,7 +63,8 @@ fn part<'t, 'a, S: SymbolLookup>(
     here: u16,
 ) -> Option<(Result<i32, ValueError>, &'t [Token<'a>])>
     ensures value { MatchOption result (BeginsNoTree rank (token_marks tokens.now))
-        (λ r. BeginsWithTree (S.lookup symbols.now) here rank (token_marks tokens.now) r.0 (token_marks r.1.now)) }
+        (λ r. BeginsWithTree (S.lookup symbols.now) here rank (token_marks tokens.now)
+        r.0 (token_marks r.1.now)) }
     ensures ends { IfSome result (λ r. EndsTree rank (token_marks r.1.now)) }
     ensures shorter { IfSome result (λ r. length r.1.now < length tokens.now) }
 {
@@ -80,10 +86,13 @@ fn right_of<'t, 'a, S: SymbolLookup>(
     symbols: &S,
     here: u16,
 ) -> Option<(Result<i32, ValueError>, &'t [Token<'a>])>
-    ensures value { MatchOption result (BeginsNoTree (rank_of_operator operator - 1) (token_marks tokens.now))
-        (λ r. BeginsWithTree (S.lookup symbols.now) here (rank_of_operator operator - 1) (token_marks tokens.now) r.0
+    ensures value { MatchOption result (BeginsNoTree (rank_of_operator operator - 1)
+        (token_marks tokens.now))
+        (λ r. BeginsWithTree (S.lookup symbols.now) here (rank_of_operator operator - 1)
+        (token_marks tokens.now) r.0
         (token_marks r.1.now)) }
-    ensures ends { IfSome result (λ r. EndsTree (rank_of_operator operator - 1) (token_marks r.1.now)) }
+    ensures ends { IfSome result (λ r. EndsTree
+        (rank_of_operator operator - 1) (token_marks r.1.now)) }
     ensures shorter { IfSome result (λ r. length r.1.now < length tokens.now) }
 {
     match operator {
@@ -100,7 +109,8 @@ fn operand<'t, 'a, S: SymbolLookup>(
     here: u16,
 ) -> Option<(Result<i32, ValueError>, &'t [Token<'a>])>
     ensures value { MatchOption result (BeginsNoTree 0 (token_marks tokens.now))
-        (λ r. BeginsWithTree (S.lookup symbols.now) here 0 (token_marks tokens.now) r.0 (token_marks r.1.now)) }
+        (λ r. BeginsWithTree (S.lookup symbols.now) here 0 (token_marks tokens.now)
+        r.0 (token_marks r.1.now)) }
     ensures shorter { IfSome result (λ r. length r.1.now < length tokens.now) }
 {
     let (first, after) = tokens.split_first()?;
@@ -121,7 +131,8 @@ fn operand<'t, 'a, S: SymbolLookup>(
 /// The operator at the left, if it has this rank at most, and the tokens after it.
 fn operator_up_to<'t, 'a>(rank: u8, tokens: &'t [Token<'a>]) -> Option<(Operator, &'t [Token<'a>])>
     ensures { MatchOption result (EndsTree rank (token_marks tokens.now))
-        (λ r. (token_marks tokens.now ≡ arithmetic r.0 ∷ token_marks r.1.now) × (rank_of_operator r.0 ≤ rank)
+        (λ r. (token_marks tokens.now ≡ arithmetic r.0 ∷ token_marks r.1.now)
+        × (rank_of_operator r.0 ≤ rank)
         × (length r.1.now < length tokens.now)) }
 {
     let [first, after @ ..] = tokens else {
@@ -158,7 +169,8 @@ fn is_closing(token: &Token<'_>) -> bool
 /// The tokens after a closing parenthesis at the left.
 fn after_closing<'t, 'a>(tokens: &'t [Token<'a>]) -> Option<&'t [Token<'a>]>
     ensures { MatchOption result ((ms : List Mark) → token_marks tokens.now ≡ closing ∷ ms → ⊥)
-        (λ rest. (token_marks tokens.now ≡ closing ∷ token_marks rest.now) × (length rest.now < length tokens.now)) }
+        (λ rest. (token_marks tokens.now ≡ closing ∷ token_marks rest.now)
+        × (length rest.now < length tokens.now)) }
 {
     let [first, after @ ..] = tokens else {
         return None;

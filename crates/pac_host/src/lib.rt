@@ -46,7 +46,8 @@ pub extern "C" fn pac_size() -> usize
 /// `WrongLength`: `roms` hasn't 25,120 bytes.
 #[unsafe(no_mangle)]
 pub extern "C" fn pac_init(board: &mut PacBoard, roms: &[u8], switches: u8) -> u32
-    ensures { Answers (λ answer. host.Inits roms.now switches board.old.bytes answer board.new.bytes) result }
+    ensures { Answers (λ answer. host.Inits roms.now switches board.old.bytes answer
+        board.new.bytes) result }
 {
     code(calls::init(board, roms, switches))
 }
@@ -55,7 +56,8 @@ pub extern "C" fn pac_init(board: &mut PacBoard, roms: &[u8], switches: u8) -> u
 /// `NoBoard`.
 #[unsafe(no_mangle)]
 pub extern "C" fn pac_reset(board: &mut PacBoard) -> u32
-    ensures { Answers (λ answer. host.Becomes board_after_reset board.old.bytes answer board.new.bytes) result }
+    ensures { Answers (λ answer. host.Becomes board_after_reset board.old.bytes answer
+        board.new.bytes) result }
 {
     code(calls::reset(board))
 }
@@ -64,7 +66,8 @@ pub extern "C" fn pac_reset(board: &mut PacBoard) -> u32
 /// it from the next call of `pac_exec` on. `NoBoard`.
 #[unsafe(no_mangle)]
 pub extern "C" fn pac_hold(board: &mut PacBoard, set: u16, clear: u16) -> u32
-    ensures { Answers (λ answer. host.Becomes (host.board_holding set clear) board.old.bytes answer board.new.bytes) result }
+    ensures { Answers (λ answer. host.Becomes (host.board_holding set clear) board.old.bytes answer
+        board.new.bytes) result }
 {
     let set = Inputs::from_bits_retain(set);
     let clear = Inputs::from_bits_retain(clear);
@@ -86,7 +89,8 @@ pub extern "C" fn pac_exec(
     samples: &mut [i16],
     ran: &mut RanBytes,
 ) -> u32
-    ensures { Answers (λ answer. host.Execs roms.now board.old.bytes microseconds samples.old ran.old.bytes answer
+    ensures { Answers (λ answer. host.Execs roms.now board.old.bytes microseconds
+        samples.old ran.old.bytes answer
         board.new.bytes samples.new ran.new.bytes) result }
 {
     code(calls::exec(board, roms, microseconds, samples, ran))
@@ -97,7 +101,8 @@ pub extern "C" fn pac_exec(
 /// `WrongLength`: `roms` hasn't 25,120 bytes, or `rgba` hasn't 258,048 bytes. `NoBoard`.
 #[unsafe(no_mangle)]
 pub extern "C" fn pac_draw(board: &PacBoard, roms: &[u8], rgba: &mut [u8]) -> u32
-    ensures { Answers (λ answer. host.Draws roms.now board.now.bytes rgba.old answer rgba.new) result }
+    ensures { Answers (λ answer. host.Draws roms.now board.now.bytes rgba.old answer rgba.new)
+        result }
 {
     code(draw::draw(board, roms, rgba))
 }
@@ -106,7 +111,8 @@ pub extern "C" fn pac_draw(board: &PacBoard, roms: &[u8], rgba: &mut [u8]) -> u3
 /// `WrongLength`: `roms` hasn't 25,120 bytes, or `text` hasn't 67,756 bytes. `NoBoard`.
 #[unsafe(no_mangle)]
 pub extern "C" fn pac_save(board: &PacBoard, roms: &[u8], text: &mut [u8]) -> u32
-    ensures { Answers (λ answer. host.WritesFile roms.now board.now.bytes text.old answer text.new) result }
+    ensures { Answers (λ answer. host.WritesFile roms.now board.now.bytes text.old answer text.new)
+        result }
 {
     code(files::save(board, roms, text))
 }
@@ -115,7 +121,8 @@ pub extern "C" fn pac_save(board: &PacBoard, roms: &[u8], text: &mut [u8]) -> u3
 /// `WrongLength`: `roms` hasn't 25,120 bytes. `NoFile`: the file is refused, docs/FORMATS.md says why; a wrong length is V3.
 #[unsafe(no_mangle)]
 pub extern "C" fn pac_load(board: &mut PacBoard, roms: &[u8], text: &[u8]) -> u32
-    ensures { Answers (λ answer. host.TakesFile roms.now text.now board.old.bytes answer board.new.bytes) result }
+    ensures { Answers (λ answer. host.TakesFile roms.now text.now board.old.bytes answer
+        board.new.bytes) result }
 {
     code(files::load(board, roms, text))
 }
@@ -125,7 +132,8 @@ pub extern "C" fn pac_load(board: &mut PacBoard, roms: &[u8], text: &[u8]) -> u3
 /// `WrongLength`: `roms` hasn't 25,120 bytes. `NoBoard`.
 #[unsafe(no_mangle)]
 pub extern "C" fn pac_peek(board: &PacBoard, roms: &[u8], address: u16, bytes: &mut [u8]) -> u32
-    ensures { Answers (λ answer. host.Peeks roms.now board.now.bytes address bytes.old answer bytes.new) result }
+    ensures { Answers (λ answer. host.Peeks roms.now board.now.bytes address bytes.old
+        answer bytes.new) result }
 {
     code(peek::peek(board, roms, address, bytes))
 }
@@ -143,7 +151,8 @@ pub extern "C" fn pac_live_size() -> usize
 /// `WrongLength`: `roms` hasn't 25,120 bytes, or `live->size` is less than `pac_live_size()`.
 #[unsafe(no_mangle)]
 pub extern "C" fn pac_live_open(live: &mut PacLive, roms: &[u8], switches: u8) -> u32
-    ensures { Answers (λ answer. live_specs.OpensLive roms.now switches answer live.old live.new) result }
+    ensures { Answers (λ answer. live_specs.OpensLive roms.now switches answer live.old live.new)
+        result }
 {
     code(live_calls::open(live, roms, switches))
 }
@@ -160,7 +169,8 @@ pub extern "C" fn pac_live_close(live: &mut PacLive) -> u32
 /// `WrongLength`: `roms` hasn't 25,120 bytes. `NoBoard`.
 #[unsafe(no_mangle)]
 pub extern "C" fn pac_live_put(live: &mut PacLive, roms: &[u8], board: &PacBoard) -> u32
-    ensures { Answers (λ answer. live_specs.Lives (Unit {0}) (live_specs.Putting roms.now board.now.bytes) answer live.old live.new) result }
+    ensures { Answers (λ answer. live_specs.Lives (Unit {0})
+        (live_specs.Putting roms.now board.now.bytes) answer live.old live.new) result }
 {
     code(live_calls::put(live, roms, board))
 }
@@ -168,7 +178,8 @@ pub extern "C" fn pac_live_put(live: &mut PacLive, roms: &[u8], board: &PacBoard
 /// Writes the board's block, whatever `board` was before: a snapshot, which any call of a block and `pac_live_put` take. `Closed`.
 #[unsafe(no_mangle)]
 pub extern "C" fn pac_live_give(live: &mut PacLive, board: &mut PacBoard) -> u32
-    ensures { Answers (λ answer. live_specs.Lives (board.new.bytes ≡ board.old.bytes) (live_specs.GivingBlock board.new.bytes)
+    ensures { Answers (λ answer. live_specs.Lives (board.new.bytes ≡ board.old.bytes)
+        (live_specs.GivingBlock board.new.bytes)
         answer live.old live.new) result }
 {
     code(live_calls::give(live, board))
@@ -177,7 +188,8 @@ pub extern "C" fn pac_live_give(live: &mut PacLive, board: &mut PacBoard) -> u32
 /// What the watchdog does: as `pac_reset`. `Closed`.
 #[unsafe(no_mangle)]
 pub extern "C" fn pac_live_reset(live: &mut PacLive) -> u32
-    ensures { Answers (λ answer. live_specs.Lives (Unit {0}) (live_specs.Becoming board_after_reset) answer live.old live.new) result }
+    ensures { Answers (λ answer. live_specs.Lives (Unit {0}) (live_specs.Becoming board_after_reset)
+        answer live.old live.new) result }
 {
     code(live_calls::reset(live))
 }
@@ -185,7 +197,8 @@ pub extern "C" fn pac_live_reset(live: &mut PacLive) -> u32
 /// Lets the inputs of `clear` go, and then holds those of `set`: as `pac_hold`. `Closed`.
 #[unsafe(no_mangle)]
 pub extern "C" fn pac_live_hold(live: &mut PacLive, set: u16, clear: u16) -> u32
-    ensures { Answers (λ answer. live_specs.Lives (Unit {0}) (live_specs.Becoming (host.board_holding set clear))
+    ensures { Answers (λ answer. live_specs.Lives (Unit {0})
+        (live_specs.Becoming (host.board_holding set clear))
         answer live.old live.new) result }
 {
     let set = Inputs::from_bits_retain(set);
@@ -201,7 +214,8 @@ pub extern "C" fn pac_live_exec(
     samples: &mut [i16],
     ran: &mut RanBytes,
 ) -> u32
-    ensures { Answers (λ answer. live_specs.Lives ((samples.new ≡ samples.old) × (ran.new.bytes ≡ ran.old.bytes))
+    ensures { Answers (λ answer. live_specs.Lives
+        ((samples.new ≡ samples.old) × (ran.new.bytes ≡ ran.old.bytes))
         (live_time_specs.Executing microseconds samples.old samples.new ran.old.bytes ran.new.bytes)
         answer live.old live.new) result }
 {
@@ -214,8 +228,10 @@ pub extern "C" fn pac_live_exec(
 /// `NoRoom`: room for 2 samples is always enough.
 #[unsafe(no_mangle)]
 pub extern "C" fn pac_live_step(live: &mut PacLive, samples: &mut [i16], ran: &mut RanBytes) -> u32
-    ensures { Answers (λ answer. live_specs.Lives ((samples.new ≡ samples.old) × (ran.new.bytes ≡ ran.old.bytes))
-        (live_step_specs.Stepping samples.old samples.new ran.old.bytes ran.new.bytes) answer live.old live.new) result }
+    ensures { Answers (λ answer. live_specs.Lives
+        ((samples.new ≡ samples.old) × (ran.new.bytes ≡ ran.old.bytes))
+        (live_step_specs.Stepping samples.old samples.new ran.old.bytes ran.new.bytes) answer
+        live.old live.new) result }
 {
     code(live_step::step(live, samples, ran))
 }
@@ -239,8 +255,10 @@ pub extern "C" fn pac_live_until(
     samples: &mut [i16],
     ran: &mut PacUntil,
 ) -> u32
-    ensures { Answers (λ answer. live_specs.Lives ((samples.new ≡ samples.old) × (ran.new ≡ ran.old))
-        (live_until_specs.Going ticks places.now watched.now samples.old samples.new ran.old ran.new)
+    ensures { Answers (λ answer. live_specs.Lives
+        ((samples.new ≡ samples.old) × (ran.new ≡ ran.old))
+        (live_until_specs.Going ticks places.now watched.now samples.old
+        samples.new ran.old ran.new)
         answer live.old live.new) result }
 {
     code(live_until::until(live, ticks, places, watched, samples, ran))
@@ -250,7 +268,8 @@ pub extern "C" fn pac_live_until(
 /// `Closed`.
 #[unsafe(no_mangle)]
 pub extern "C" fn pac_live_peek(live: &mut PacLive, address: u16, bytes: &mut [u8]) -> u32
-    ensures { Answers (λ answer. live_specs.Lives (bytes.new ≡ bytes.old) (live_look_specs.Peeking address bytes.old bytes.new)
+    ensures { Answers (λ answer. live_specs.Lives (bytes.new ≡ bytes.old)
+        (live_look_specs.Peeking address bytes.old bytes.new)
         answer live.old live.new) result }
 {
     code(live_look::peek(live, address, bytes))
@@ -259,7 +278,8 @@ pub extern "C" fn pac_live_peek(live: &mut PacLive, address: u16, bytes: &mut [u
 /// Tells the registers. `Closed`.
 #[unsafe(no_mangle)]
 pub extern "C" fn pac_live_registers(live: &mut PacLive, registers: &mut PacRegisters) -> u32
-    ensures { Answers (λ answer. live_specs.Lives (registers.new ≡ registers.old) (live_look_specs.Telling registers.new)
+    ensures { Answers (λ answer. live_specs.Lives (registers.new ≡ registers.old)
+        (live_look_specs.Telling registers.new)
         answer live.old live.new) result }
 {
     code(live_look::tell(live, registers))
@@ -281,8 +301,10 @@ pub extern "C" fn pac_live_draw(live: &mut PacLive, order: u8, pixels: &mut [u8]
 /// `WrongLength`: `lines` hasn't 64,512 bytes, or `palette` hasn't 64 bytes.
 #[unsafe(no_mangle)]
 pub extern "C" fn pac_live_lines(live: &mut PacLive, lines: &mut [u8], palette: &mut [u8]) -> u32
-    ensures { Answers (λ answer. live_specs.Lives ((lines.new ≡ lines.old) × (palette.new ≡ palette.old))
-        (live_lines_specs.GivingLines lines.old lines.new palette.old palette.new) answer live.old live.new) result }
+    ensures { Answers (λ answer. live_specs.Lives
+        ((lines.new ≡ lines.old) × (palette.new ≡ palette.old))
+        (live_lines_specs.GivingLines lines.old lines.new palette.old palette.new) answer
+        live.old live.new) result }
 {
     code(live_lines::lines(live, lines, palette))
 }
@@ -291,7 +313,8 @@ pub extern "C" fn pac_live_lines(live: &mut PacLive, lines: &mut [u8], palette: 
 /// `WrongLength`: `text` hasn't 67,756 bytes.
 #[unsafe(no_mangle)]
 pub extern "C" fn pac_live_save(live: &mut PacLive, text: &mut [u8]) -> u32
-    ensures { Answers (λ answer. live_specs.Lives (text.new ≡ text.old) (live_files_specs.Saving text.old text.new)
+    ensures { Answers (λ answer. live_specs.Lives (text.new ≡ text.old)
+        (live_files_specs.Saving text.old text.new)
         answer live.old live.new) result }
 {
     code(live_files::save(live, text))
@@ -301,7 +324,8 @@ pub extern "C" fn pac_live_save(live: &mut PacLive, text: &mut [u8]) -> u32
 /// `NoFile`: the file is refused, docs/FORMATS.md says why; a wrong length is V3.
 #[unsafe(no_mangle)]
 pub extern "C" fn pac_live_load(live: &mut PacLive, text: &[u8]) -> u32
-    ensures { Answers (λ answer. live_specs.Lives (Unit {0}) (live_files_specs.Loading text.now) answer live.old live.new) result }
+    ensures { Answers (λ answer. live_specs.Lives (Unit {0}) (live_files_specs.Loading text.now)
+        answer live.old live.new) result }
 {
     code(live_files::load(live, text))
 }

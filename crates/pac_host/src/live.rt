@@ -53,7 +53,8 @@ impl PacLive {
     /// The board of an open handle.
     pub(crate) fn board(&mut self) -> &mut Board
         requires { self.old.seal ≡ live_seal }
-        ensures* writes_back { sem 𝓛 (follows live_row board_row self.entry.ghost_name result.ghost_name (live_with_board self.old)) }
+        ensures* writes_back { sem 𝓛 (follows live_row board_row self.entry.ghost_name
+            result.ghost_name (live_with_board self.old)) }
         ensures value { result.now ≡ self.old.board }
     {
         unsafe { &mut *(self.at as *mut Board) }

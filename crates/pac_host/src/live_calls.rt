@@ -92,7 +92,8 @@ fn put_block(board: &mut Board, roms: &[u8], block: &PacBoard) -> Result<(), Hos
 
 /// Puts a block and ROMs into a live board.
 pub(crate) fn put(live: &mut PacLive, roms: &[u8], block: &PacBoard) -> Result<(), HostFault>
-    ensures { live_specs.Lives (Unit {0}) (live_specs.Putting roms.now block.now.bytes) result live.old live.new }
+    ensures { live_specs.Lives (Unit {0}) (live_specs.Putting roms.now block.now.bytes)
+        result live.old live.new }
 {
     check_open(live)?;
     put_block(live.board(), roms, block)
@@ -111,7 +112,8 @@ fn give_block(board: &mut Board, block: &mut PacBoard) -> Result<(), HostFault>
 
 /// Gives the block of a live board.
 pub(crate) fn give(live: &mut PacLive, block: &mut PacBoard) -> Result<(), HostFault>
-    ensures { live_specs.Lives (block.new.bytes ≡ block.old.bytes) (live_specs.GivingBlock block.new.bytes)
+    ensures { live_specs.Lives (block.new.bytes ≡ block.old.bytes)
+        (live_specs.GivingBlock block.new.bytes)
         result live.old live.new }
 {
     check_open(live)?;
@@ -128,7 +130,8 @@ fn reset_board(board: &mut Board) -> Result<(), HostFault>
 
 /// Resets a live board as the watchdog does.
 pub(crate) fn reset(live: &mut PacLive) -> Result<(), HostFault>
-    ensures { live_specs.Lives (Unit {0}) (live_specs.Becoming board_after_reset) result live.old live.new }
+    ensures { live_specs.Lives (Unit {0}) (live_specs.Becoming board_after_reset)
+        result live.old live.new }
 {
     check_open(live)?;
     reset_board(live.board())
@@ -136,7 +139,8 @@ pub(crate) fn reset(live: &mut PacLive) -> Result<(), HostFault>
 
 /// Lets some inputs of a board go, and holds others then.
 fn hold_on(board: &mut Board, set: Inputs, clear: Inputs) -> Result<(), HostFault>
-    ensures { live_specs.Becoming (host.board_holding (mask set) (mask clear)) result board.old board.new }
+    ensures { live_specs.Becoming (host.board_holding (mask set) (mask clear))
+        result board.old board.new }
 {
     board.input_clear(clear);
     board.input_set(set);
@@ -145,7 +149,8 @@ fn hold_on(board: &mut Board, set: Inputs, clear: Inputs) -> Result<(), HostFaul
 
 /// Lets some inputs of a live board go, and holds others then.
 pub(crate) fn hold(live: &mut PacLive, set: Inputs, clear: Inputs) -> Result<(), HostFault>
-    ensures { live_specs.Lives (Unit {0}) (live_specs.Becoming (host.board_holding (mask set) (mask clear)))
+    ensures { live_specs.Lives (Unit {0}) (live_specs.Becoming
+        (host.board_holding (mask set) (mask clear)))
         result live.old live.new }
 {
     check_open(live)?;

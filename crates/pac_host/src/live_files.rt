@@ -28,7 +28,8 @@ fn save_board(board: &mut Board, text: &mut [u8]) -> Result<(), HostFault>
 
 /// Writes the state file of a live board.
 pub(crate) fn save(live: &mut PacLive, text: &mut [u8]) -> Result<(), HostFault>
-    ensures { live_specs.Lives (text.new ≡ text.old) (live_files.Saving text.old text.new) result live.old live.new }
+    ensures { live_specs.Lives (text.new ≡ text.old) (live_files.Saving text.old text.new)
+        result live.old live.new }
 {
     check_open(live)?;
     save_board(live.board(), text)

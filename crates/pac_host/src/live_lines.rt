@@ -50,7 +50,8 @@ fn put_palette(colours: &mut [u8], palette: &Channels)
 
 /// Writes the colour numbers of a board's picture as it stands, and the colours.
 fn give_lines(board: &mut Board, lines: &mut [u8], palette: &mut [u8]) -> Result<(), HostFault>
-    ensures { live_lines.GivingLines lines.old lines.new palette.old palette.new result board.old board.new }
+    ensures { live_lines.GivingLines lines.old lines.new palette.old palette.new
+        result board.old board.new }
 {
     if lines.len() != NUMBERS_SIZE {
         return Err(HostFault::WrongLength);
@@ -70,7 +71,8 @@ pub(crate) fn lines(
     palette: &mut [u8],
 ) -> Result<(), HostFault>
     ensures { live_specs.Lives ((lines.new ≡ lines.old) × (palette.new ≡ palette.old))
-        (live_lines.GivingLines lines.old lines.new palette.old palette.new) result live.old live.new }
+        (live_lines.GivingLines lines.old lines.new palette.old palette.new)
+        result live.old live.new }
 {
     check_open(live)?;
     give_lines(live.board(), lines, palette)

@@ -140,7 +140,8 @@ fn tell_registers(board: &mut Board, told: &mut PacRegisters) -> Result<(), Host
 
 /// Tells the registers of a live board.
 pub(crate) fn tell(live: &mut PacLive, told: &mut PacRegisters) -> Result<(), HostFault>
-    ensures { live_specs.Lives (told.new ≡ told.old) (look.Telling told.new) result live.old live.new }
+    ensures { live_specs.Lives (told.new ≡ told.old) (look.Telling told.new)
+        result live.old live.new }
 {
     check_open(live)?;
     tell_registers(live.board(), told)
@@ -167,7 +168,8 @@ fn peek_board(board: &mut Board, address: u16, bytes: &mut [u8]) -> Result<(), H
 
 /// Peeks at a live board.
 pub(crate) fn peek(live: &mut PacLive, address: u16, bytes: &mut [u8]) -> Result<(), HostFault>
-    ensures { live_specs.Lives (bytes.new ≡ bytes.old) (look.Peeking address bytes.old bytes.new) result live.old live.new }
+    ensures { live_specs.Lives (bytes.new ≡ bytes.old) (look.Peeking address bytes.old bytes.new)
+        result live.old live.new }
 {
     check_open(live)?;
     peek_board(live.board(), address, bytes)
@@ -199,7 +201,8 @@ fn draw_board(board: &mut Board, order: u8, pixels: &mut [u8]) -> Result<(), Hos
 
 /// Draws the picture of a live board.
 pub(crate) fn draw(live: &mut PacLive, order: u8, pixels: &mut [u8]) -> Result<(), HostFault>
-    ensures { live_specs.Lives (pixels.new ≡ pixels.old) (look.Drawing order pixels.old pixels.new) result live.old live.new }
+    ensures { live_specs.Lives (pixels.new ≡ pixels.old) (look.Drawing order pixels.old pixels.new)
+        result live.old live.new }
 {
     check_open(live)?;
     draw_board(live.board(), order, pixels)

@@ -25,7 +25,8 @@ fn one_step(board: &mut Board, samples: &mut [i16]) -> PacRan
     ensures samples { samples.new ≡ host.samples_given (live_step.outputs_of_one board.old)
         ++ drop (sound_count (live_step.outputs_of_one board.old)) samples.old }
     ensures ran { result ≡ ran_of (board.new.state.now.time - board.old.state.now.time)
-        (sound_count (live_step.outputs_of_one board.old)) (picture_count (live_step.outputs_of_one board.old))
+        (sound_count (live_step.outputs_of_one board.old))
+        (picture_count (live_step.outputs_of_one board.old))
         (live_step.stop_of_next (next_of board.old)) }
 {
     let begun = board.time();
@@ -61,7 +62,8 @@ fn check_step(time: u64, room: usize) -> Result<(), HostFault>
 
 /// Does one step of a board.
 fn step_board(board: &mut Board, samples: &mut [i16], ran: &mut RanBytes) -> Result<(), HostFault>
-    ensures { live_step.Stepping samples.old samples.new ran.old.bytes ran.new.bytes result board.old board.new }
+    ensures { live_step.Stepping samples.old samples.new ran.old.bytes ran.new.bytes
+        result board.old board.new }
 {
     check_step(board.time(), samples.len())?;
     let told = one_step(board, samples);
@@ -76,7 +78,8 @@ pub(crate) fn step(
     ran: &mut RanBytes,
 ) -> Result<(), HostFault>
     ensures { live_specs.Lives ((samples.new ≡ samples.old) × (ran.new.bytes ≡ ran.old.bytes))
-        (live_step.Stepping samples.old samples.new ran.old.bytes ran.new.bytes) result live.old live.new }
+        (live_step.Stepping samples.old samples.new ran.old.bytes ran.new.bytes)
+        result live.old live.new }
 {
     check_open(live)?;
     step_board(live.board(), samples, ran)

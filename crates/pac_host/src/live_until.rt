@@ -168,7 +168,8 @@ fn walk_on<W: Watch>(
     requires limit { limit ≤ latest }
     requires nothing { due_outputs board.old ≡ [] }
     requires unmet { W.met watch.old ≡ None }
-    ensures { WalksOn stops.now (W.marks watch.old) limit board.old sounds.old result.0 result.1 (W.met watch.new)
+    ensures { WalksOn stops.now (W.marks watch.old) limit board.old sounds.old result.0
+        result.1 (W.met watch.new)
         board.new sounds.new }
 {
     let begun = board.time();
@@ -213,7 +214,8 @@ fn go_on<W: Watch>(
     requires taken { sounds.old.taken ≡ 0 }
     requires pictures { sounds.old.pictures ≡ 0 }
     requires unmet { W.met watch.old ≡ None }
-    ensures { IsGone stops.now (W.marks watch.old) limit board.old sounds.old result.0 result.1 (W.met watch.new)
+    ensures { IsGone stops.now (W.marks watch.old) limit board.old sounds.old result.0
+        result.1 (W.met watch.new)
         board.new sounds.new }
 {
     // (its bound, that of a u64, is what no steps leave)
@@ -240,7 +242,8 @@ fn go_told<W: Watch>(
     requires later { board.old.state.now.time ≤ limit }
     requires soon { limit ≤ board.old.state.now.time + 2 ^ 32 }
     requires unmet { W.met watch.old ≡ None }
-    ensures { live_until.IsGoneOn (is_stop stops.now) (W.marks watch.old) limit board.old samples.old board.new samples.new result }
+    ensures { live_until.IsGoneOn (is_stop stops.now) (W.marks watch.old) limit board.old
+        samples.old board.new samples.new result }
 {
     let begun = board.time();
     let mut sounds = Sounds {
@@ -266,7 +269,8 @@ fn go_by(
     requires later { board.old.state.now.time ≤ limit }
     requires soon { limit ≤ board.old.state.now.time + 2 ^ 32 }
     requires map { live_until.IsMap watched.now }
-    ensures { live_until.IsGoneOn (is_stop stops.now) (live_until.watch_map watched.now) limit board.old samples.old
+    ensures { live_until.IsGoneOn (is_stop stops.now) (live_until.watch_map watched.now)
+        limit board.old samples.old
         board.new samples.new result }
 {
     if watched.is_empty() {

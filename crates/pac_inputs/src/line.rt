@@ -1,6 +1,7 @@
 //! What a line of a script says by itself.
 
-ghost use Rattle.std.specs.Prelude.{◌≡◌, ◌==◌, ◌<◌, ◌≤◌, [], ◌∷◌, length, option_map, IfSome, IfNone, not};
+ghost use Rattle.std.specs.Prelude.{◌≡◌, ◌==◌, ◌<◌, ◌≤◌, [], ◌∷◌, length, option_map, IfSome};
+ghost use Rattle.std.specs.Prelude.{IfNone, not};
 ghost use Rattle.pac_lex.specs.Tokens.{begins};
 ghost use Rattle.pac_lex.specs.Words.{words_of_line};
 ghost use Rattle.std.specs.List.{prefix_len, slice_split};
@@ -109,7 +110,8 @@ fn is_dash(word: &[u8]) -> bool
 #[tactic(auto, using(crate::proofs::NameLemmas::all_parts))]
 fn first_name(names: &[u8]) -> (&[u8], Option<&[u8]>)
     ensures last { IfNone result.1 (slice_split is_comma_byte names.now ≡ result.0.now ∷ []) }
-    ensures more { IfSome result.1 (λ after. slice_split is_comma_byte names.now ≡ result.0.now ∷ slice_split is_comma_byte after.now) }
+    ensures more { IfSome result.1 (λ after. slice_split is_comma_byte names.now
+        ≡ result.0.now ∷ slice_split is_comma_byte after.now) }
     ensures shorter { IfSome result.1 (λ after. length after.now < length names.now) }
 {
     let (name, rest) = names.split_at(name_len(names));

@@ -5,7 +5,8 @@ ghost use Rattle.pac_inputs.specs.declared.fault.ScriptError.TheVariants as erro
 ghost use Rattle.pac_inputs.specs.declared.fault.ScriptFault.{ScriptFault};
 ghost use Rattle.pac_inputs.specs.declared.line.Stretch.{Stretch};
 ghost use Rattle.pac_inputs.specs.Script.{with_line, with_line_number, script_of};
-ghost use Rattle.pac_inputs.specs.ScriptProofs.{ScriptFails, ScriptGives, OnScriptFault, IsScript, HasScriptFault};
+ghost use Rattle.pac_inputs.specs.ScriptProofs.{ScriptFails, ScriptGives, OnScriptFault, IsScript};
+ghost use Rattle.pac_inputs.specs.ScriptProofs.{HasScriptFault};
 
 use crate::fault::{ScriptCode, ScriptError, ScriptFault};
 use crate::line::{FRAME_LIMIT, meaning};
@@ -23,7 +24,8 @@ pub fn read_script(alloc: Global, text: &[u8]) -> Result<Script, ScriptError>
     ensures only { (said : List Stretch) → IsScript text.now said → ScriptGives result (Ok said) }
     // The fault told is the text's first, and the text's first is told.
     ensures fault { IfErr result (λ e. OnScriptFault e (HasScriptFault text.now)) }
-    ensures refused { (fault : ScriptFault) → HasScriptFault text.now fault → ScriptGives result (Err fault) }
+    ensures refused { (fault : ScriptFault) → HasScriptFault text.now fault →
+        ScriptGives result (Err fault) }
     // Which script and which fault, as a function of the text.
     ensures exact { ScriptGives result (script_of text.now) }
 {
@@ -49,7 +51,8 @@ fn read(alloc: Global, text: &[u8]) -> Result<Script, ScriptError>
 /// Adds what the line of this number says to what those before it say.
 fn take_line(script: &mut Script, number: u64, line: &[u8]) -> Result<(), ScriptError>
     ensures ok { OnOk result (with_line script.old line.now ≡ Ok script.new) }
-    ensures err { IfErr result (λ e. ScriptFails e (with_line_number number (with_line script.old line.now))) }
+    ensures err { IfErr result (λ e. ScriptFails e
+        (with_line_number number (with_line script.old line.now))) }
 {
     let stretch = match meaning(line) {
         Err(code) => return Err(in_line(code, number)),

@@ -2,7 +2,10 @@
 #![tactic(auto)]
 
 ghost use Rattle.std.specs.Prelude.{◌≡◌, ◌≢◌, ◌≤◌, ◌<◌, ◌/◌, ◌%◌, ◌==◌, ℕ};
-ghost use Rattle.pac_latch.specs.Latched.{power_on_latched, latched_of, latched_after_bit, latched_after_vector, latched_after_kick, latched_after_accept, latched_after_reset, latched_after_blank};
+ghost use Rattle.pac_latch.specs.Latched.{power_on_latched, latched_of, latched_after_bit};
+ghost use Rattle.pac_latch.specs.Latched.{latched_after_vector, latched_after_kick};
+ghost use Rattle.pac_latch.specs.Latched.{latched_after_accept, latched_after_reset};
+ghost use Rattle.pac_latch.specs.Latched.{latched_after_blank};
 ghost use Rattle.pac_latch.specs.Latched as spec;
 
 mod reading;

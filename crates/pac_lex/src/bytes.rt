@@ -2,7 +2,8 @@
 
 ghost use Rattle.std.specs.Prelude.{◌≡◌, ◌≤◌, length};
 ghost use Rattle.std.specs.List.{prefix_len};
-ghost use Rattle.pac_lex.specs.Bytes.{is_blank, is_name_start, is_name_byte, is_printable, after_gap};
+ghost use Rattle.pac_lex.specs.Bytes.{is_blank, is_name_start, is_name_byte, is_printable};
+ghost use Rattle.pac_lex.specs.Bytes.{after_gap};
 
 /// Whether a byte is a tab or a space.
 pub(crate) fn is_blank(byte: u8) -> bool

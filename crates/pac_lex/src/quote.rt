@@ -2,7 +2,8 @@
 
 ghost use Rattle.std.specs.Prelude.{◌≡◌, ◌≤◌, ℕ, List, [], ◌∷◌, length, IfSome, IfOk, Some};
 ghost use Rattle.pac_lex.specs.Texts.{quoted_text};
-ghost use Rattle.pac_lex.specs.TextsProofs.{closing_length, unquoted_characters, after_character, inside_quotes, characters_of};
+ghost use Rattle.pac_lex.specs.TextsProofs.{closing_length, unquoted_characters, after_character};
+ghost use Rattle.pac_lex.specs.TextsProofs.{inside_quotes, characters_of};
 ghost use Rattle.pac_lex.specs.TextsProofs.{one_character};
 
 use std::alloc::{AllocError, Allocator};
@@ -10,7 +11,8 @@ use std::alloc::{AllocError, Allocator};
 /// The characters of a text, whose bytes stand here with their quotes: those between the quotes, each
 /// doubled quote as one.
 pub fn characters<A: Allocator>(alloc: A, text: &[u8]) -> Result<Vec<u8, A>, AllocError>
-    ensures each { (characters : List ℕ) → text.now ≡ quoted_text characters → IfOk result (λ v. v.items ≡ characters) }
+    ensures each { (characters : List ℕ) → text.now ≡ quoted_text characters →
+        IfOk result (λ v. v.items ≡ characters) }
     // The characters, as a function of the bytes.
     ensures exact { IfOk result (λ v. v.items ≡ characters_of text.now) }
 {
@@ -19,7 +21,8 @@ pub fn characters<A: Allocator>(alloc: A, text: &[u8]) -> Result<Vec<u8, A>, All
 
 /// How many characters a text has, whose bytes stand here with their quotes.
 pub fn character_count(text: &[u8]) -> usize
-    ensures each { (characters : List ℕ) → text.now ≡ quoted_text characters → result ≡ length characters }
+    ensures each { (characters : List ℕ) → text.now ≡ quoted_text characters →
+        result ≡ length characters }
     // The count, as a function of the bytes.
     ensures exact { result ≡ length (characters_of text.now) }
 {

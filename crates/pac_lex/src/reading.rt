@@ -7,7 +7,8 @@ ghost use Rattle.std.specs.Char.{is_ascii_digit, is_ascii_alphanumeric};
 ghost use Rattle.pac_lex.specs.Bytes.{is_quote, is_name_start, is_printable};
 ghost use Rattle.pac_lex.specs.Tokens.{Lexeme, IsRead, HasLexFault, one_byte_kind, is_af, begins};
 ghost use Rattle.pac_lex.specs.TokensProofs.{view, views};
-ghost use Rattle.pac_lex.specs.Scan.{LexingGives, OnLexFault, is_end, token_before, name_token_at, number_token_at, text_token_at, token_at, scan, tokens_of};
+ghost use Rattle.pac_lex.specs.Scan.{LexingGives, OnLexFault, is_end, token_before, name_token_at};
+ghost use Rattle.pac_lex.specs.Scan.{number_token_at, text_token_at, token_at, scan, tokens_of};
 
 use crate::bytes::{after_gap, is_name_start, is_printable, name_len};
 use crate::fault::{LexError, LexFault};
@@ -28,10 +29,12 @@ pub fn tokens<A: Allocator>(alloc: A, line: &[u8]) -> Result<Vec<Token<'_>, A>, 
     // What is read is so: the line is these tokens, each in its own bytes, with blanks between them.
     ensures read { IfOk result (λ v. IsRead line.now (views v.items)) }
     // What is so is read, unless memory runs out.
-    ensures only { (tokens : List Lexeme) → IsRead line.now tokens → LexingGives (λ v. views v.items) result (Ok tokens) }
+    ensures only { (tokens : List Lexeme) → IsRead line.now tokens →
+        LexingGives (λ v. views v.items) result (Ok tokens) }
     // The fault told is the line's, and the line's is told.
     ensures fault { IfErr result (λ e. OnLexFault e (HasLexFault line.now)) }
-    ensures refused { (fault : LexFault) → HasLexFault line.now fault → LexingGives (λ v. views v.items) result (Err fault) }
+    ensures refused { (fault : LexFault) → HasLexFault line.now fault →
+        LexingGives (λ v. views v.items) result (Err fault) }
     // Which tokens and which fault, as a function of the line.
     ensures exact { LexingGives (λ v. views v.items) result (tokens_of line.now) }
 {

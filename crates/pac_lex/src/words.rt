@@ -1,6 +1,7 @@
 //! The words of a line.
 
-ghost use Rattle.std.specs.Prelude.{◌≡◌, ◌<◌, ◌≤◌, [], ◌∷◌, length, slice_get, IfSome, IfNone, not, option_map};
+ghost use Rattle.std.specs.Prelude.{◌≡◌, ◌<◌, ◌≤◌, [], ◌∷◌, length, slice_get, IfSome, IfNone, not};
+ghost use Rattle.std.specs.Prelude.{option_map};
 ghost use Rattle.std.specs.List.{prefix_len};
 ghost use Rattle.pac_lex.specs.Bytes.{is_blank, after_gap};
 ghost use Rattle.pac_lex.specs.Words.{words_of_line, first_word};
@@ -13,7 +14,8 @@ use crate::bytes::{after_gap, is_blank, name_len};
 #[tactic(auto, using(crate::proofs::WordLemmas::next_words))]
 pub fn next_word(line: &[u8]) -> Option<(&[u8], &[u8])>
     ensures none { IfNone result (words_of_line line.now ≡ []) }
-    ensures some { IfSome result (λ found. words_of_line line.now ≡ found.0.now ∷ words_of_line found.1.now) }
+    ensures some { IfSome result (λ found. words_of_line line.now
+        ≡ found.0.now ∷ words_of_line found.1.now) }
     ensures shorter { IfSome result (λ found. length found.1.now < length line.now) }
     // Which bytes, as a function of the line.
     ensures exact { option_map (λ found. (found.0.now, found.1.now)) result ≡ next_word line.now }

@@ -15,7 +15,10 @@ use pac_wave::{Settings, Wave};
 impl Machine {
     /// The machine at power-on with ROMs of zeros, over which others are put, and the byte of the DIP switches.
     pub fn without_roms(switches: u8) -> Machine
-        ensures { result ≡ record { set = zero_parts; now = power_on_moment (power_on_board_view switches) } }
+        ensures { result ≡ record {
+          set = zero_parts;
+          now = power_on_moment (power_on_board_view switches);
+        } }
     {
         Machine {
             cpu: Cpu::power_on(),

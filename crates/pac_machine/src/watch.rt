@@ -10,8 +10,10 @@ ghost use Rattle.pac_cpu.specs.StepReads.{reads_in};
 ghost use Rattle.pac_map.specs.ContentsProofs.{map_byte_at, map_input_at, map_after_action};
 ghost use Rattle.pac_cpu.specs.Action.{Write};
 ghost use Rattle.pac_machine.specs.declared.watch.Access.{Access};
-ghost use Rattle.pac_machine.specs.Watches.{first_of, first_read, first_write, watched_in, watches_reads};
-ghost use Rattle.pac_machine.specs.WatchesProofs.{looked_at, watched_byte_at, watched_input_at, watched_after_action};
+ghost use Rattle.pac_machine.specs.Watches.{first_of, first_read, first_write, watched_in};
+ghost use Rattle.pac_machine.specs.Watches.{watches_reads};
+ghost use Rattle.pac_machine.specs.WatchesProofs.{looked_at, watched_byte_at, watched_input_at};
+ghost use Rattle.pac_machine.specs.WatchesProofs.{watched_after_action};
 
 use crate::stops::Marks;
 use pac_cpu::{Bus, Cpu, DataReads, Once, Regs};
@@ -49,13 +51,18 @@ pub trait Watch {
     /// Does one step of the processor over the board's bus. Where nothing was met before, what the step does at watched addresses is kept:
     /// its first write, or else its first read.
     fn step(&mut self, cpu: &mut Cpu, map: &mut Map, request: Option<u8>) -> Once
-        ensures did { DoesCpuStep map_after_action (cpu_step (surroundings_of map_byte_at map_input_at map_after_action map.old) cpu.old request)
+        ensures did { DoesCpuStep map_after_action
+            (cpu_step (surroundings_of map_byte_at map_input_at map_after_action map.old) cpu.old
+            request)
             cpu.old map.old cpu.new map.new result }
-        ensures time { IfStepped result (λ ticks kind. (least_ticks ≤ ticks) × (ticks ≤ most_ticks)) }
+        ensures time { IfStepped result (λ ticks kind. (least_ticks ≤ ticks)
+            × (ticks ≤ most_ticks)) }
         ensures marks { marks self.new ≡ marks self.old }
         ensures met { met self.old ≡ None → met self.new
-            ≡ watched_in (surroundings_of map_byte_at map_input_at map_after_action map.old) (marks self.old) cpu.old request
-            (cpu_step (surroundings_of map_byte_at map_input_at map_after_action map.old) cpu.old request) };
+            ≡ watched_in (surroundings_of map_byte_at map_input_at map_after_action map.old)
+            (marks self.old) cpu.old request
+            (cpu_step (surroundings_of map_byte_at map_input_at map_after_action map.old) cpu.old
+            request) };
 
     /// Whether anything was met.
     fn has_met(&self) -> bool
@@ -155,7 +162,8 @@ fn written_or_read(
     before: &Regs,
     request: Option<u8>,
 ) -> Option<Access>
-    ensures { result ≡ first_of written (first_read (Some marks.now) (reads_in once.now before.now request)) }
+    ensures { result ≡ first_of written (first_read (Some marks.now)
+        (reads_in once.now before.now request)) }
 {
     match written {
         Some(met) => Some(met),
@@ -209,12 +217,16 @@ impl WatchedBus<'_> {
     fn step(&mut self, cpu: &mut Cpu, request: Option<u8>) -> Once
         ensures same { self.new.map.ghost_name ≡ self.old.map.ghost_name }
         ensures did { DoesCpuStep map_after_action
-            (cpu_step (surroundings_of map_byte_at map_input_at map_after_action self.old.map.now) cpu.old request)
+            (cpu_step (surroundings_of map_byte_at map_input_at map_after_action self.old.map.now)
+            cpu.old request)
             cpu.old self.old.map.now cpu.new self.new.map.now result }
-        ensures time { IfStepped result (λ ticks kind. (least_ticks ≤ ticks) × (ticks ≤ most_ticks)) }
+        ensures time { IfStepped result (λ ticks kind. (least_ticks ≤ ticks)
+            × (ticks ≤ most_ticks)) }
         ensures met { self.old.met ≡ None → self.new.met
-            ≡ first_write (surroundings_of map_byte_at map_input_at map_after_action self.old.map.now) (Some self.old.marks.now) []
-            (actions_of (cpu_step (surroundings_of map_byte_at map_input_at map_after_action self.old.map.now) cpu.old request)) }
+            ≡ first_write (surroundings_of map_byte_at map_input_at map_after_action
+            self.old.map.now) (Some self.old.marks.now) []
+            (actions_of (cpu_step (surroundings_of map_byte_at map_input_at map_after_action
+            self.old.map.now) cpu.old request)) }
     {
         cpu.step_apart(self, request)
     }
@@ -236,7 +248,10 @@ impl WatchedBus<'_> {
     /// Writes to the board's bus.
     #[inline(always)]
     fn pass(&mut self, address: u16, byte: u8)
-        ensures { self.new ≡ record self.old { map = record self.old.map { now = map_after_action self.old.map.now (Write address byte) } } }
+        ensures { self.new ≡ record self.old {
+          map = record self.old.map
+              { now = map_after_action self.old.map.now (Write address byte) };
+        } }
     {
         self.map.write(address, byte);
     }

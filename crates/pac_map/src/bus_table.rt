@@ -102,7 +102,8 @@ pub(crate) fn is_of_sound(place: BusPlace) -> bool
 #[inline(always)]
 pub(crate) fn memory_place(address: u16) -> Option<BusPlace>
     ensures read { unwrap_or result (spec.read_port (address % 0x100)) ≡ spec.read_place address }
-    ensures written { unwrap_or result (spec.write_port (address % 0x100)) ≡ spec.write_place address }
+    ensures written { unwrap_or result (spec.write_port (address % 0x100))
+        ≡ spec.write_place address }
     ensures in_range { IfSome result place_proofs.IsPlaceInRange }
     ensures silent { IfSome result (λ place. is_of_sound place ≡ false) }
 {

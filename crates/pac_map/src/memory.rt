@@ -6,7 +6,8 @@ ghost use Rattle.pac_inputs.specs.Inputs.{mask};
 ghost use Rattle.pac_latch.specs.Latched.{is_watchdog_due, latched_after_bit};
 ghost use Rattle.pac_map.specs.Cleared.{zero_ram};
 ghost use Rattle.pac_map.specs.Contents.{lookups_of, read_of};
-ghost use Rattle.pac_map.specs.Entry.{Vector, Blank, Accept, Reset, Hold, view_after_write, view_after};
+ghost use Rattle.pac_map.specs.Entry.{Vector, Blank, Accept, Reset, Hold, view_after_write};
+ghost use Rattle.pac_map.specs.Entry.{view_after};
 ghost use Rattle.pac_map.specs.Lookups.{answer};
 ghost use Rattle.pac_map.specs.PlaceProofs.{IsPlaceInRange};
 ghost use Rattle.pac_map.specs.View as spec;
@@ -202,7 +203,8 @@ impl Memory {
     /// Holds these inputs too from now on.
     #[inline]
     pub fn input_set(&mut self, inputs: Inputs)
-        ensures { self.new ≡ view_after self.old (Hold (spec.held_with self.old.held (mask inputs))) }
+        ensures { self.new ≡ view_after self.old
+            (Hold (spec.held_with self.old.held (mask inputs))) }
     {
         self.held.insert(inputs);
     }
@@ -210,7 +212,8 @@ impl Memory {
     /// Lets these inputs go.
     #[inline]
     pub fn input_clear(&mut self, inputs: Inputs)
-        ensures { self.new ≡ view_after self.old (Hold (spec.held_without self.old.held (mask inputs))) }
+        ensures { self.new ≡ view_after self.old
+            (Hold (spec.held_without self.old.held (mask inputs))) }
     {
         self.held.remove(inputs);
     }

@@ -21,7 +21,8 @@ fn lay(buffer: &mut [u8], at: usize, bytes: &[u8])
     requires { at + length bytes.now ≤ length buffer.old }
     ensures size { length buffer.new ≡ length buffer.old }
     ensures text { take (at + length bytes.now) buffer.new ≡ take at buffer.old ++ bytes.now }
-    ensures rest { drop (at + length bytes.now) buffer.new ≡ drop (at + length bytes.now) buffer.old }
+    ensures rest { drop (at + length bytes.now) buffer.new
+        ≡ drop (at + length bytes.now) buffer.old }
 {
     buffer[at..at + bytes.len()].copy_from_slice(bytes);
 }

@@ -72,9 +72,11 @@ impl<W: Out> Counted<W> {
     /// took. After it each call answers the same fault and writes nothing.
     pub fn put(&mut self, bytes: &[u8]) -> Result<(), WriteFault>
         ensures put { Puts W.took W.refused self.old bytes.now result self.new }
-        ensures taken { OnOk result (self.new.count ≡ file_count (self.old.count + length bytes.now)) }
+        ensures taken { OnOk result (self.new.count
+            ≡ file_count (self.old.count + length bytes.now)) }
         ensures at_most { self.new.count ≤ self.old.count + length bytes.now }
-        ensures stops { self.old.failed ≡ false → OnErr result (Stops W.took W.refused self.old bytes.now self.new) }
+        ensures stops { self.old.failed ≡ false →
+            OnErr result (Stops W.took W.refused self.old bytes.now self.new) }
     {
         self.check_open()?;
         match self.writer.put_all(bytes) {

@@ -37,7 +37,12 @@ impl Faulty {
     /// A writer with room for so many bytes, that takes at most `most` bytes a call and refuses the call of the number
     /// `refusal`, once: 1 is its first call, 0 is none.
     pub fn new(alloc: Global, room: usize, most: usize, refusal: u64) -> Result<Faulty, AllocError>
-        ensures { IfOk result (λ faulty. faulty ≡ record { space = record { bytes = []; room = room }; most = most; refusal = refusal }) }
+        ensures { IfOk result (λ faulty. faulty
+            ≡ record {
+              space = record { bytes = []; room = room };
+              most = most;
+              refusal = refusal;
+            }) }
     {
         let memory = MemoryWriter::new(alloc, room)?;
         Ok(Faulty {
@@ -68,7 +73,8 @@ impl Out for Faulty {
     fn write(&mut self, bytes: &[u8]) -> Result<usize, Failed>
         ensures write { IsWrite Passes IsRefused self.old bytes.now result self.new }
         ensures call { self.new.refusal ≡ self.old.refusal - 1 }
-        ensures count { IfOk result (λ count. count ≡ min (min (length bytes.now) self.old.most) self.old.space.room) }
+        ensures count { IfOk result (λ count. count
+            ≡ min (min (length bytes.now) self.old.most) self.old.space.room) }
         ensures refusal { self.old.refusal ≡ 1 → IsErr result }
     {
         let is_refused = self.refusal == 1;

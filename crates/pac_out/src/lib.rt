@@ -56,7 +56,8 @@ pub trait Out {
     where
         Self: Sized,
         ensures ok { OnOk result (took self.old bytes.now self.new) }
-        ensures err { IfErr result (λ fault. StopsAfter took refused self.old bytes.now fault.count self.new) }
+        ensures err { IfErr result (λ fault. StopsAfter took refused self.old
+            bytes.now fault.count self.new) }
     {
         let mut count = 0;
         while count < bytes.len() {

@@ -1,5 +1,6 @@
 //! A writer over memory.
-ghost use Rattle.std.specs.Prelude.{◌≡◌, ◌<◌, ◌≤◌, ◌+◌, ◌↔◌, [], length, min, IfOk, IsErr, vec_len, vec_capacity};
+ghost use Rattle.std.specs.Prelude.{◌≡◌, ◌<◌, ◌≤◌, ◌+◌, ◌↔◌, [], length, min, IfOk, IsErr, vec_len};
+ghost use Rattle.std.specs.Prelude.{vec_capacity};
 ghost use Rattle.pac_out.specs.Memory.{Space, Adds, IsFull};
 ghost use Rattle.pac_out.specs.Writes.{IsWrite};
 ghost use Rattle.pac_out.specs.Laws.{adds-nothing, adds-joined};

@@ -83,7 +83,8 @@ impl Pending {
         file: &mut Counted<W>,
         pieces: &[&[u8]],
     ) -> Result<(), WriteFault>
-        ensures { Gathers W.took W.refused self.old file.old (flat_map (λ piece. piece.now) pieces.now) result self.new file.new }
+        ensures { Gathers W.took W.refused self.old file.old
+            (flat_map (λ piece. piece.now) pieces.now) result self.new file.new }
     {
         for piece in pieces {
             self.put(file, piece)?;
@@ -105,7 +106,8 @@ impl Pending {
 impl<W: Out> Counted<W> {
     /// Writes pieces one after another, in large writes.
     pub fn put_pieces(&mut self, pieces: &[&[u8]]) -> Result<(), WriteFault>
-        ensures { Puts W.took W.refused self.old (flat_map (λ piece. piece.now) pieces.now) result self.new }
+        ensures { Puts W.took W.refused self.old
+            (flat_map (λ piece. piece.now) pieces.now) result self.new }
     {
         let mut pending = Pending::new();
         pending.put_pieces(self, pieces)?;

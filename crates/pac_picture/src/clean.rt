@@ -64,7 +64,8 @@ impl Clean {
         requires { line < tile.height }
         ensures clean { result ≡ true → slice_index_or self.now.lines line false ≡ true }
         ensures sprites { result ≡ true → (k : ℕ) → k < 8 →
-            AreSameOn line (seen_sprite (sprites_at self.now.sprites line) k) (sprite_at screen.now k) }
+            AreSameOn line (seen_sprite (sprites_at self.now.sprites line) k)
+            (sprite_at screen.now k) }
     {
         self.lines[line as usize] && screen.has_sprites_on(line, &self.sprites[line as usize])
     }
@@ -102,7 +103,8 @@ impl Clean {
         ensures flip { self.new.flip ≡ self.old.flip }
         ensures lines { (line : ℕ) → slice_index_or self.new.lines line false ≡ true →
             slice_index_or self.old.lines line false ≡ true }
-        ensures row { (line : ℕ) → slice_index_or self.new.lines line false ≡ true → line / 8 ≡ row → cells ≡ 0 }
+        ensures row { (line : ℕ) → slice_index_or self.new.lines line false ≡ true →
+            line / 8 ≡ row → cells ≡ 0 }
         ensures sprites { self.new.sprites ≡ self.old.sprites }
     {
         if cells != 0 {
@@ -114,7 +116,8 @@ impl Clean {
 /// Forgets the eight lines of a row of cells.
 fn forget(lines: &mut [bool; HEIGHT as usize], row: u8)
     requires { row < tiles_laws.rows }
-    ensures lines { (line : ℕ) → slice_index_or lines.new line false ≡ true → slice_index_or lines.old line false ≡ true }
+    ensures lines { (line : ℕ) → slice_index_or lines.new line false ≡ true →
+        slice_index_or lines.old line false ≡ true }
     ensures row { (line : ℕ) → line / 8 ≡ row → slice_index_or lines.new line false ≡ false }
 {
     let first = 8 * row as usize;

@@ -1,7 +1,8 @@
 //! The ROMs that pictures are drawn from. The pixels of a tile and of a sprite are taken from their bytes, and a colour's numbers
 //! put in their places, sixteen at a time.
 
-ghost use Rattle.std.specs.Prelude.{◌≡◌, ◌<◌, ℕ, ◌+◌, ◌*◌, ◌/◌, ◌%◌, nat_lt, if◌then◌else◌, length, slice_index};
+ghost use Rattle.std.specs.Prelude.{◌≡◌, ◌<◌, ℕ, ◌+◌, ◌*◌, ◌/◌, ◌%◌, nat_lt, if◌then◌else◌, length};
+ghost use Rattle.std.specs.Prelude.{slice_index};
 ghost use Rattle.pac_num.specs.Tabulate.{tabulate};
 ghost use Rattle.pac_num.specs.Pixels.{pixel_value};
 ghost use Rattle.pac_tiles.specs.Tiles as tile;
@@ -51,7 +52,8 @@ fn values(bytes: u8x16) -> u8x16
 #[inline]
 fn tile_places(pair: u8) -> u8x16
     requires { pair < 4 }
-    ensures { (k : ℕ) → k < 16 → slice_index result k ≡ 2 * pair + k / 8 + (if nat_lt (k % 8) 4 then 8 else 0) }
+    ensures { (k : ℕ) → k < 16 → slice_index result k
+        ≡ 2 * pair + k / 8 + (if nat_lt (k % 8) 4 then 8 else 0) }
 {
     u8x16::from_array(FIRST_LINES) + u8x16::splat(2 * pair)
 }
@@ -70,7 +72,8 @@ fn tile_bytes(rom: &[u8; 4096], code: u8) -> u8x16
 fn tile_values(bytes: u8x16, pair: u8) -> u8x16
     requires { pair < 4 }
     ensures { (k : ℕ) → k < 16 → slice_index result k
-        ≡ pixel_value (slice_index bytes (2 * pair + k / 8 + (if nat_lt (k % 8) 4 then 8 else 0))) k }
+        ≡ pixel_value (slice_index bytes (2 * pair + k / 8 + (if nat_lt (k % 8) 4 then 8 else 0)))
+        k }
 {
     values(picked(bytes, tile_places(pair)))
 }
@@ -80,7 +83,8 @@ fn tile_values(bytes: u8x16, pair: u8) -> u8x16
 fn sprite_bytes(rom: &[u8; 4096], code: u8, y: u8) -> [u8; 16]
     requires code { code < sprites_proofs.sprite_codes }
     requires y { y < 16 }
-    ensures { (x : ℕ) → x < 16 → slice_index result x ≡ slice_index rom.now (64 * code + sprite.pixel_byte_index x y) }
+    ensures { (x : ℕ) → x < 16 → slice_index result x
+        ≡ slice_index rom.now (64 * code + sprite.pixel_byte_index x y) }
 {
     let start = 64 * code as usize + (y % 8) as usize + 32 * (y / 8) as usize;
     let mut bytes = [0; 16];
@@ -139,7 +143,11 @@ impl Graphics {
     /// The graphics of a tile ROM, a sprite ROM and a lookup PROM.
     #[inline(always)]
     pub fn new(tiles: &[u8; 4096], sprites: &[u8; 4096], lookup: &[u8; 256]) -> Graphics
-        ensures { result ≡ record { tiles = tiles.now; sprites = sprites.now; lookup = lookup.now } }
+        ensures { result ≡ record {
+          tiles = tiles.now;
+          sprites = sprites.now;
+          lookup = lookup.now;
+        } }
     {
         Graphics {
             tiles: copied(tiles),
@@ -162,7 +170,11 @@ impl Graphics {
 
     /// Becomes the graphics of these ROMs, in place.
     pub(crate) fn put(&mut self, tiles: &[u8; 4096], sprites: &[u8; 4096], lookup: &[u8; 256])
-        ensures { self.new ≡ record { tiles = tiles.now; sprites = sprites.now; lookup = lookup.now } }
+        ensures { self.new ≡ record {
+          tiles = tiles.now;
+          sprites = sprites.now;
+          lookup = lookup.now;
+        } }
     {
         self.tiles = copied(tiles);
         self.sprites = copied(sprites);

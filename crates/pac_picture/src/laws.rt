@@ -1,7 +1,8 @@
 //! What pictures are made with: the places at which two lists of bytes differ, found sixteen at a time.
 
 ghost use Rattle.std.specs.Prelude.{◌≡◌, ◌≤◌, ◌<◌, ◌+◌, ◌*◌, ◌/◌, ◌%◌, ◌^◌, ℕ};
-ghost use Rattle.std.specs.Prelude.{◌==◌, if◌then◌else◌, Bool, true, false, not, length, slice_index, slice_index_or, EachIndex};
+ghost use Rattle.std.specs.Prelude.{◌==◌, if◌then◌else◌, Bool, true, false, not, length};
+ghost use Rattle.std.specs.Prelude.{slice_index, slice_index_or, EachIndex};
 ghost use Rattle.pac_picture.specs.Laws.{StaleCellsAreDrawn};
 
 use std::simd::prelude::*;
@@ -23,8 +24,10 @@ pub(crate) fn sixteen(now: &[u8], from: usize, shadow: &[u8], start: usize) -> u
 #[inline]
 fn spread(bits: u64, mask: &mut [bool], start: usize)
     requires { start + 16 ≤ length mask.old }
-    ensures within { (k : ℕ) → k < 16 → slice_index_or mask.new (start + k) false ≡ (bits / 2 ^ k % 2 == 1) }
-    ensures before { (k : ℕ) → k < start → slice_index_or mask.new k false ≡ slice_index_or mask.old k false }
+    ensures within { (k : ℕ) → k < 16 → slice_index_or mask.new (start + k) false
+        ≡ (bits / 2 ^ k % 2 == 1) }
+    ensures before { (k : ℕ) → k < start → slice_index_or mask.new k false
+        ≡ slice_index_or mask.old k false }
 {
     for k in 0..16usize {
         mask[start + k] = (bits >> k) % 2 == 1;

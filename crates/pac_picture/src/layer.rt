@@ -1,13 +1,16 @@
 //! The layer of tiles: each row of cells as it was last drawn, beside the bytes that it was drawn from.
 
 ghost use Rattle.std.specs.Prelude.{◌≡◌, ◌<◌, ◌≤◌, ◌-◌, ◌/◌, ◌%◌, ◌||◌, ℕ, true};
-ghost use Rattle.std.specs.Prelude.{false, if◌then◌else◌, [], length, map, count_by, slice_index, slice_index_or, slice_set};
+ghost use Rattle.std.specs.Prelude.{false, if◌then◌else◌, [], length, map, count_by, slice_index};
+ghost use Rattle.std.specs.Prelude.{slice_index_or, slice_set};
 ghost use Rattle.pac_num.specs.Tabulate.{tabulate};
 ghost use Rattle.pac_tiles.specs.Tiles as tile;
 ghost use Rattle.pac_tiles.specs.TilesLaws as tiles_laws;
-ghost use Rattle.pac_picture.specs.Layer.{cells_of, cell_differs, differing_cells, differing_in, drawn_from, shadow_at};
+ghost use Rattle.pac_picture.specs.Layer.{cells_of, cell_differs, differing_cells, differing_in};
+ghost use Rattle.pac_picture.specs.Layer.{drawn_from, shadow_at};
 ghost use Rattle.pac_picture.specs.Layer.{shadow_from};
-ghost use Rattle.pac_picture.specs.LayerProofs.{IsDrawn, kept_dot, made_stale, stale_rows, zero_roms};
+ghost use Rattle.pac_picture.specs.LayerProofs.{IsDrawn, kept_dot, made_stale, stale_rows};
+ghost use Rattle.pac_picture.specs.LayerProofs.{zero_roms};
 ghost use Rattle.pac_picture.specs.Layer.{all_differing};
 
 use crate::graphics::Graphics;
@@ -104,7 +107,8 @@ fn make_stale(shadows: &mut [Shadow])
 /// Fills a line with line y of the picture's cells, which are drawn for it alone.
 pub(crate) fn lay_alone(graphics: &Graphics, screen: &Screen<'_>, y: u8, out: &mut [u8; WIDTH])
     requires { y < tile.height }
-    ensures { out.new ≡ tabulate tile.width (λ x. kept_dot graphics.now (drawn_from screen.now (y / 8)) x y) }
+    ensures { out.new ≡ tabulate tile.width (λ x.
+        kept_dot graphics.now (drawn_from screen.now (y / 8)) x y) }
 {
     let row = y / 8;
     let mut lines = [[[0; 16]; PLACES]; 8];
@@ -210,7 +214,8 @@ impl Layer {
     #[inline]
     pub(crate) fn refresh(&mut self, row: u8, screen: &Screen<'_>) -> u32
         requires { row < tiles_laws.rows }
-        ensures layer { self.new ≡ record self.old { shadows = slice_set self.old.shadows row (drawn_from screen.now row) } }
+        ensures layer { self.new ≡ record self.old
+            { shadows = slice_set self.old.shadows row (drawn_from screen.now row) } }
         ensures count { result ≡ differing_in self.old.shadows screen.now row }
         ensures bound { result ≤ tiles_laws.columns }
         ensures high { length self.old.shadows ≡ tiles_laws.rows }
@@ -225,7 +230,8 @@ impl Layer {
     #[inline(never)]
     fn redraw_row(&mut self, row: u8, screen: &Screen<'_>) -> u32
         requires { row < tiles_laws.rows }
-        ensures layer { self.new ≡ record self.old { shadows = slice_set self.old.shadows row (drawn_from screen.now row) } }
+        ensures layer { self.new ≡ record self.old
+            { shadows = slice_set self.old.shadows row (drawn_from screen.now row) } }
         ensures count { result ≡ differing_in self.old.shadows screen.now row }
         ensures bound { result ≤ tiles_laws.columns }
         ensures high { length self.old.shadows ≡ tiles_laws.rows }
@@ -244,7 +250,8 @@ impl Layer {
 
     /// Draws those cells of the picture again that differ from what the screen has, and says how many they are.
     pub(crate) fn refresh_all(&mut self, screen: &Screen<'_>) -> u32
-        ensures layer { self.new ≡ record self.old { shadows = tabulate tiles_laws.rows (drawn_from screen.now) } }
+        ensures layer { self.new ≡ record self.old
+            { shadows = tabulate tiles_laws.rows (drawn_from screen.now) } }
         ensures count { result ≡ all_differing self.old.shadows screen.now }
     {
         let mut drawn = 0;
@@ -259,7 +266,8 @@ impl Layer {
     pub(crate) fn line(&self, y: u8, out: &mut [u8; WIDTH])
         requires y { y < tile.height }
         requires drawn { (shadow_at self.now.shadows (y / 8)).stale ≡ false }
-        ensures { out.new ≡ tabulate tile.width (λ x. kept_dot self.now.roms (shadow_at self.now.shadows (y / 8)) x y) }
+        ensures { out.new ≡ tabulate tile.width
+            (λ x. kept_dot self.now.roms (shadow_at self.now.shadows (y / 8)) x y) }
     {
         lay_line(&self.rows[(y / 8) as usize].lines, y % 8, out);
     }

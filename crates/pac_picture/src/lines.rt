@@ -1,7 +1,8 @@
 //! The lines of a picture, as colour numbers.
 
 ghost use Rattle.std.specs.Prelude.{◌≡◌, ◌<◌, ◌/◌, ◌-◌, ℕ, [], true};
-ghost use Rattle.std.specs.Prelude.{length, reverse, if◌then◌else◌, slice_index, slice_index_or, slice_set, EachIndex};
+ghost use Rattle.std.specs.Prelude.{length, reverse, if◌then◌else◌, slice_index, slice_index_or};
+ghost use Rattle.std.specs.Prelude.{slice_set, EachIndex};
 ghost use Rattle.pac_num.specs.Tabulate.{tabulate};
 ghost use Rattle.pac_tiles.specs.Tiles as tile;
 ghost use Rattle.pac_tiles.specs.TilesLaws as tiles_laws;
@@ -36,7 +37,8 @@ fn turn(out: &mut [u8; WIDTH], flip: bool)
 #[inline]
 fn compose_line(layer: &Layer, screen: &Screen<'_>, y: u8, out: &mut [u8; WIDTH])
     requires y { y < tile.height }
-    requires drawn { shadow_at layer.now.shadows (source_of screen.now y / 8) ≡ drawn_from screen.now (source_of screen.now y / 8) }
+    requires drawn { shadow_at layer.now.shadows (source_of screen.now y / 8)
+        ≡ drawn_from screen.now (source_of screen.now y / 8) }
     ensures { out.new ≡ picture_line layer.now.roms screen.now y }
 {
     let source = screen.source(y);
@@ -123,11 +125,14 @@ impl Lines {
         clean: &mut Clean,
     )
         requires y { y < tile.height }
-        requires drawn { shadow_at layer.now.shadows (source_of screen.now y / 8) ≡ drawn_from screen.now (source_of screen.now y / 8) }
-        requires clean { AreClean clean.old.lines clean.old.flip clean.old.sprites layer.now.roms layer.now.shadows self.old }
+        requires drawn { shadow_at layer.now.shadows (source_of screen.now y / 8)
+            ≡ drawn_from screen.now (source_of screen.now y / 8) }
+        requires clean { AreClean clean.old.lines clean.old.flip clean.old.sprites layer.now.roms
+            layer.now.shadows self.old }
         requires flip { clean.old.flip ≡ screen.now.flip }
         ensures lines { self.new ≡ slice_set self.old y (picture_line layer.now.roms screen.now y) }
-        ensures clean { AreClean clean.new.lines clean.new.flip clean.new.sprites layer.now.roms layer.now.shadows self.new }
+        ensures clean { AreClean clean.new.lines clean.new.flip clean.new.sprites layer.now.roms
+            layer.now.shadows self.new }
     {
         let source = screen.source(y);
         if clean.stays(source, screen) {

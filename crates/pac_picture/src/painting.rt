@@ -1,6 +1,7 @@
 //! A line of the picture: the sprites painted over the cells of its row.
 
-ghost use Rattle.std.specs.Prelude.{◌≡◌, ◌<◌, ◌≤◌, ◌+◌, ◌-◌, ◌*◌, ◌/◌, ◌%◌, ◌^◌, ◌==◌, ◌&&◌, ℕ, nat_le, nat_lt, if◌then◌else◌};
+ghost use Rattle.std.specs.Prelude.{◌≡◌, ◌<◌, ◌≤◌, ◌+◌, ◌-◌, ◌*◌, ◌/◌, ◌%◌, ◌^◌, ◌==◌, ◌&&◌, ℕ};
+ghost use Rattle.std.specs.Prelude.{nat_le, nat_lt, if◌then◌else◌};
 ghost use Rattle.std.specs.Prelude.{find, unwrap_or, slice_index};
 ghost use Rattle.pac_num.specs.Tabulate.{tabulate};
 ghost use Rattle.pac_tiles.specs.Tiles as tile;
@@ -26,7 +27,8 @@ fn over(number: u8, below: u8) -> u8
 /// Sixteen colour numbers of a sprite painted over others, at once.
 #[inline(always)]
 fn over_sixteen(numbers: &[u8; 16], below: &[u8; 16]) -> [u8; 16]
-    ensures { (k : ℕ) → k < 16 → slice_index result k ≡ painted_number (slice_index numbers.now k) (slice_index below.now k) }
+    ensures { (k : ℕ) → k < 16 → slice_index result k
+        ≡ painted_number (slice_index numbers.now k) (slice_index below.now k) }
 {
     let numbers = u8x16::from_array(*numbers);
     numbers
@@ -38,7 +40,8 @@ fn over_sixteen(numbers: &[u8; 16], below: &[u8; 16]) -> [u8; 16]
 /// A line of a sprite as it is shown: flipped, or as it is.
 #[inline(always)]
 fn shown(line: &[u8; 16], flip: bool) -> [u8; 16]
-    ensures { (k : ℕ) → k < 16 → slice_index result k ≡ slice_index line.now (sprites.flipped_place flip k) }
+    ensures { (k : ℕ) → k < 16 → slice_index result k
+        ≡ slice_index line.now (sprites.flipped_place flip k) }
 {
     let line = u8x16::from_array(*line);
     if flip {
@@ -63,7 +66,8 @@ fn sixteen_of(line: &[u8; WIDTH], start: usize) -> [u8; 16]
 pub(crate) fn put_numbers(line: &mut [u8; WIDTH], start: usize, numbers: &[u8; 16])
     requires { start ≤ 272 }
     ensures { (x : ℕ) → x < tile.width → slice_index line.new x
-        ≡ (if nat_le start x && nat_lt x (start + 16) then slice_index numbers.now (x - start) else slice_index line.old x) }
+        ≡ (if nat_le start x && nat_lt x (start + 16) then slice_index numbers.now (x - start)
+        else slice_index line.old x) }
 {
     u8x16::from_array(*numbers).copy_to_slice(&mut line[start..]);
 }
@@ -74,7 +78,8 @@ fn paint_box(numbers: &[u8; 16], start: usize, out: &mut [u8; WIDTH])
     requires { start ≤ 272 }
     ensures { (x : ℕ) → x < tile.width → slice_index out.new x
         ≡ (if nat_le start x && nat_lt x (start + 16)
-        then painted_number (slice_index numbers.now (x - start)) (slice_index out.old x) else slice_index out.old x) }
+        then painted_number (slice_index numbers.now (x - start)) (slice_index out.old x)
+        else slice_index out.old x) }
 {
     let below = sixteen_of(out, start);
     put_numbers(out, start, &over_sixteen(numbers, &below));
@@ -82,7 +87,8 @@ fn paint_box(numbers: &[u8; 16], start: usize, out: &mut [u8; WIDTH])
 
 /// Paints a line of a sprite's colour numbers over a line of the picture, column by column.
 fn paint_columns(line: &[u8; 16], sprite: &Sprite, out: &mut [u8; WIDTH])
-    ensures dots { (x : ℕ) → x < tile.width → slice_index out.new x ≡ over_line line.now sprite.now x (slice_index out.old x) }
+    ensures dots { (x : ℕ) → x < tile.width →
+        slice_index out.new x ≡ over_line line.now sprite.now x (slice_index out.old x) }
 {
     let columns = sprite.columns();
     for x in columns.start..columns.end {
@@ -94,7 +100,8 @@ fn paint_columns(line: &[u8; 16], sprite: &Sprite, out: &mut [u8; WIDTH])
 /// Paints a line of a sprite's colour numbers over a line of the picture: at once where the whole box shows.
 #[inline]
 fn paint_line(line: &[u8; 16], sprite: &Sprite, out: &mut [u8; WIDTH])
-    ensures dots { (x : ℕ) → x < tile.width → slice_index out.new x ≡ over_line line.now sprite.now x (slice_index out.old x) }
+    ensures dots { (x : ℕ) → x < tile.width →
+        slice_index out.new x ≡ over_line line.now sprite.now x (slice_index out.old x) }
 {
     let columns = sprite.columns();
     if columns.start + 16 == columns.end {
@@ -109,7 +116,8 @@ fn paint_line(line: &[u8; 16], sprite: &Sprite, out: &mut [u8; WIDTH])
 fn paint(graphics: &Graphics, sprite: &Sprite, y: u8, out: &mut [u8; WIDTH])
     requires { sprite.now.code < sprites_proofs.sprite_codes }
     ensures dots { (x : ℕ) → x < tile.width →
-        slice_index out.new x ≡ painted_number (sprite_dot graphics.now sprite.now x y) (slice_index out.old x) }
+        slice_index out.new x ≡ painted_number (sprite_dot graphics.now sprite.now x y)
+        (slice_index out.old x) }
 {
     let Some(line) = sprite.line_at(y) else {
         return;
@@ -131,7 +139,8 @@ fn paint_boxed(
     requires k { k < 8 }
     requires boxed { is_boxed ≡ sprites.is_in_box (sprite_at screen.now k).top y }
     ensures dots { (x : ℕ) → x < tile.width → slice_index out.new x
-        ≡ painted_number (sprite_dot graphics.now (sprite_at screen.now k) x y) (slice_index out.old x) }
+        ≡ painted_number (sprite_dot graphics.now (sprite_at screen.now k) x y)
+        (slice_index out.old x) }
 {
     if is_boxed {
         paint(graphics, &screen.sprite(k), y, out);
@@ -157,7 +166,8 @@ pub(crate) fn paint_sprites(
 )
     requires { AreBoxes boxes screen.now y }
     ensures dots { (x : ℕ) → x < tile.width → slice_index out.new x
-        ≡ unwrap_or (find is_opaque (tabulate 8 (λ k. sprite_dot graphics.now (sprite_at screen.now k) x y))) (slice_index out.old x) }
+        ≡ unwrap_or (find is_opaque (tabulate 8
+        (λ k. sprite_dot graphics.now (sprite_at screen.now k) x y))) (slice_index out.old x) }
 {
     for painted in 0..8u8 {
         let k = 7 - painted;
@@ -176,7 +186,8 @@ pub(crate) fn paint_unless_none(
 )
     requires { AreBoxes boxes screen.now y }
     ensures dots { (x : ℕ) → x < tile.width → slice_index out.new x
-        ≡ unwrap_or (find is_opaque (tabulate 8 (λ k. sprite_dot graphics.now (sprite_at screen.now k) x y))) (slice_index out.old x) }
+        ≡ unwrap_or (find is_opaque (tabulate 8
+        (λ k. sprite_dot graphics.now (sprite_at screen.now k) x y))) (slice_index out.old x) }
 {
     if boxes != 0 {
         paint_sprites(graphics, screen, boxes, y, out);

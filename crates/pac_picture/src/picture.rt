@@ -1,6 +1,7 @@
 //! The picture as a board keeps it.
 
-ghost use Rattle.std.specs.Prelude.{◌≡◌, ◌<◌, ◌/◌, ℕ, [], false, length, map, replicate, slice_index, slice_index_or, slice_set, EachIndex};
+ghost use Rattle.std.specs.Prelude.{◌≡◌, ◌<◌, ◌/◌, ℕ, [], false, length, map, replicate};
+ghost use Rattle.std.specs.Prelude.{slice_index, slice_index_or, slice_set, EachIndex};
 ghost use Rattle.pac_tiles.specs.Tiles as tile;
 ghost use Rattle.pac_colour.specs.Colours as colour;
 ghost use Rattle.pac_picture.specs.Layer.{AreStale, cell_differs, shadow_at, cells_of};
@@ -181,7 +182,8 @@ impl Picture {
     /// Takes the lines of another picture; every cell counts as differing then.
     pub fn copy_from(&mut self, lines: &RawLines)
         requires { IsPicture lines.now }
-        ensures picture { self.new ≡ record self.old { lines = lines.now; shadows = map made_stale self.old.shadows } }
+        ensures picture { self.new ≡ record self.old
+            { lines = lines.now; shadows = map made_stale self.old.shadows } }
         ensures stale { AreStale self.new.shadows }
     {
         self.clean.clear();

@@ -1,6 +1,7 @@
 //! Lines of a picture as they come from elsewhere, and whether they are a picture's.
 
-ghost use Rattle.std.specs.Prelude.{◌≡◌, ◌<◌, ◌↔◌, [], true, length, slice_index, slice_index_or, EachIndex};
+ghost use Rattle.std.specs.Prelude.{◌≡◌, ◌<◌, ◌↔◌, [], true, length, slice_index, slice_index_or};
+ghost use Rattle.std.specs.Prelude.{EachIndex};
 ghost use Rattle.pac_tiles.specs.Tiles as tile;
 ghost use Rattle.pac_colour.specs.Colours as colour;
 ghost use Rattle.pac_picture.specs.State.{IsPicture};
@@ -32,7 +33,8 @@ fn has_width(line: &[u8; WIDTH])
 /// All bits that any number of a line has: where they are below 16, so is each number.
 #[inline]
 fn bits(line: &[u8; WIDTH]) -> u8
-    ensures below { (result < colour.numbers) ↔ EachIndex line.now (λ x. slice_index line.now x < colour.numbers) }
+    ensures below { (result < colour.numbers) ↔ EachIndex line.now
+        (λ x. slice_index line.now x < colour.numbers) }
 {
     let mut bits = 0;
     for number in line {

@@ -1,6 +1,7 @@
 //! What a program writes to choose the picture.
 
-ghost use Rattle.std.specs.Prelude.{◌≡◌, ◌<◌, ◌+◌, ◌*◌, ◌/◌, ◌%◌, ◌^◌, ◌-ℤ◌, ℕ, pos, true, false, length, slice_index, if◌then◌else◌};
+ghost use Rattle.std.specs.Prelude.{◌≡◌, ◌<◌, ◌+◌, ◌*◌, ◌/◌, ◌%◌, ◌^◌, ◌-ℤ◌, ℕ, pos, true, false};
+ghost use Rattle.std.specs.Prelude.{length, slice_index, if◌then◌else◌};
 ghost use Rattle.pac_tiles.specs.Tiles as tile;
 ghost use Rattle.pac_tiles.specs.TilesLaws as tiles_laws;
 ghost use Rattle.pac_tiles.specs.TilesProofs as tiles_proofs;
@@ -135,7 +136,10 @@ impl<'a> Screen<'a> {
     /// The bytes of the sprites.
     #[inline]
     pub(crate) fn sprite_bytes(&self) -> SpriteBytes
-        ensures { result ≡ record { attributes = self.now.attributes; coordinates = self.now.coordinates } }
+        ensures { result ≡ record {
+          attributes = self.now.attributes;
+          coordinates = self.now.coordinates;
+        } }
     {
         SpriteBytes {
             attributes: u8x16::from_slice(self.attributes).to_array(),
@@ -148,7 +152,8 @@ impl<'a> Screen<'a> {
     #[inline]
     pub(crate) fn has_sprites_on(&self, y: u8, sprites: &SpriteBytes) -> bool
         requires { y < tile.height }
-        ensures { result ≡ true → (k : ℕ) → k < 8 → AreSameOn y (seen_sprite sprites.now k) (sprite_at self.now k) }
+        ensures { result ≡ true → (k : ℕ) → k < 8 →
+            AreSameOn y (seen_sprite sprites.now k) (sprite_at self.now k) }
     {
         let attributes = sixteen(self.attributes, 0, &sprites.attributes, 0);
         let coordinates = sixteen(self.coordinates, 0, &sprites.coordinates, 0);
@@ -193,7 +198,8 @@ fn boxes_at(coordinates: &[u8], y: u8) -> u64
     requires coordinates { length coordinates.now ≡ sprite_bytes }
     requires y { y < tile.height }
     ensures { (k : ℕ) → k < 8 → result / 2 ^ (2 * k) % 2
-        ≡ (if sprite.is_in_box (pos (slice_index coordinates.now (2 * k)) -ℤ pos 31) y then 1 else 0) }
+        ≡ (if sprite.is_in_box (pos (slice_index coordinates.now (2 * k)) -ℤ pos 31) y then 1
+        else 0) }
 {
     (u8x16::splat(y + 31) - u8x16::from_slice(coordinates))
         .simd_lt(u8x16::from_array(BOX_LINES))

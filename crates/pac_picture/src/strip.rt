@@ -1,13 +1,15 @@
 //! A row of cells as it is drawn: the eight lines of its colour numbers, those of two cells side by side at a time.
 
-ghost use Rattle.std.specs.Prelude.{◌≡◌, ◌<◌, ◌≤◌, ◌+◌, ◌-◌, ◌*◌, ◌/◌, ◌%◌, ◌==◌, ℕ, true, false, [], if◌then◌else◌};
+ghost use Rattle.std.specs.Prelude.{◌≡◌, ◌<◌, ◌≤◌, ◌+◌, ◌-◌, ◌*◌, ◌/◌, ◌%◌, ◌==◌, ℕ, true, false};
+ghost use Rattle.std.specs.Prelude.{[], if◌then◌else◌};
 ghost use Rattle.std.specs.Prelude.{nat_lt, count_by, slice_index, slice_index_or};
 ghost use Rattle.pac_num.specs.Tabulate.{tabulate};
 ghost use Rattle.pac_tiles.specs.Tiles as tile;
 ghost use Rattle.pac_tiles.specs.TilesLaws as tiles_laws;
 ghost use Rattle.pac_picture.specs.Layer.{shadow_from};
 ghost use Rattle.pac_picture.specs.LayerProofs.{kept_dot, row_dot};
-ghost use Rattle.pac_picture.specs.Strips.{beside, tile_pairs, twin_dot, has_marked, AreDrawn, AreLike, IsTwin};
+ghost use Rattle.pac_picture.specs.Strips.{beside, tile_pairs, twin_dot, has_marked, AreDrawn};
+ghost use Rattle.pac_picture.specs.Strips.{AreLike, IsTwin};
 
 use crate::graphics::{Graphics, TilePattern};
 use crate::painting::put_numbers;
@@ -63,7 +65,8 @@ fn side_by_side(left: &TilePattern, right: &TilePattern) -> Twin
 #[inline(always)]
 fn put_sixteen(line: &mut [[u8; 16]; PLACES], place: usize, numbers: [u8; 16])
     requires { place < 18 }
-    ensures { (n : ℕ) → slice_index_or line.new n [] ≡ (if n == place then numbers else slice_index_or line.old n []) }
+    ensures { (n : ℕ) → slice_index_or line.new n []
+        ≡ (if n == place then numbers else slice_index_or line.old n []) }
 {
     line[place] = numbers;
 }
@@ -106,9 +109,11 @@ fn second_cell(
     place: usize,
 ) -> TilePattern
     requires place { place < 18 }
-    requires first { first ≡ tile_pairs graphics.now (slice_index colours.now (2 * place)) (slice_index tiles.now (2 * place)) }
+    requires first { first ≡ tile_pairs graphics.now (slice_index colours.now (2 * place))
+        (slice_index tiles.now (2 * place)) }
     ensures { result
-        ≡ tile_pairs graphics.now (slice_index colours.now (2 * place + 1)) (slice_index tiles.now (2 * place + 1)) }
+        ≡ tile_pairs graphics.now (slice_index colours.now (2 * place + 1))
+        (slice_index tiles.now (2 * place + 1)) }
 {
     let (here, next) = (2 * place, 2 * place + 1);
     if tiles[next] == tiles[here] && colours[next] == colours[here] {
@@ -157,7 +162,8 @@ pub(crate) fn draw_all(
     tiles: &RowBytes,
     colours: &RowBytes,
 )
-    ensures { (x y : ℕ) → x < tile.width → y < 8 → row_dot lines.new x y ≡ kept_dot graphics.now (shadow_from tiles.now colours.now) x y }
+    ensures { (x y : ℕ) → x < tile.width → y < 8 →
+        row_dot lines.new x y ≡ kept_dot graphics.now (shadow_from tiles.now colours.now) x y }
 {
     let mut twin = [[0; 16]; 8];
     for place in 0..PLACES {
@@ -186,8 +192,10 @@ fn redraw_place(
     place: usize,
 )
     requires place { place < 18 }
-    requires drawn { AreDrawn graphics.now tiles.now colours.now (has_marked mask.now) place lines.old }
-    ensures { AreDrawn graphics.now tiles.now colours.now (has_marked mask.now) (place + 1) lines.new }
+    requires drawn { AreDrawn graphics.now tiles.now colours.now
+        (has_marked mask.now) place lines.old }
+    ensures { AreDrawn graphics.now tiles.now colours.now
+        (has_marked mask.now) (place + 1) lines.new }
 {
     if is_marked(mask, place) {
         put_twin(lines, place, &fresh_twin(graphics, tiles, colours, place));
@@ -204,7 +212,8 @@ pub(crate) fn redraw(
     mask: &[bool; COLUMNS],
 )
     requires { AreDrawn graphics.now tiles.now colours.now (has_marked mask.now) 0 lines.old }
-    ensures { (x y : ℕ) → x < tile.width → y < 8 → row_dot lines.new x y ≡ kept_dot graphics.now (shadow_from tiles.now colours.now) x y }
+    ensures { (x y : ℕ) → x < tile.width → y < 8 →
+        row_dot lines.new x y ≡ kept_dot graphics.now (shadow_from tiles.now colours.now) x y }
 {
     for place in 0..PLACES {
         redraw_place(lines, graphics, tiles, colours, mask, place);
@@ -222,7 +231,8 @@ fn one(is_marked: bool) -> u32
 /// How many cells a mask has.
 #[inline]
 pub(crate) fn marked(mask: &[bool; COLUMNS]) -> u32
-    ensures count { result ≡ count_by (λ k. slice_index_or mask.now k false) (tabulate tiles_laws.columns (λ k. k)) }
+    ensures count { result ≡ count_by (λ k. slice_index_or mask.now k false)
+        (tabulate tiles_laws.columns (λ k. k)) }
     ensures bound { result ≤ tiles_laws.columns }
 {
     let mut count = 0;

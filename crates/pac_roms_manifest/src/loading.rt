@@ -5,8 +5,10 @@ ghost use Rattle.pac_roms.specs.Parts.{program_size};
 ghost use Rattle.pac_roms_manifest.specs.Manifests.{entry_of_part};
 ghost use Rattle.pac_roms_manifest.specs.Results.{SetGives, FindsFault, filled};
 ghost use Rattle.pac_roms_manifest.specs.Parts.{parts_in_order};
-ghost use Rattle.pac_roms_manifest.specs.Sets.{first_answer, needs_table, is_unnamed, unnamed_fault, two_programs_fault, digest_differs};
-ghost use Rattle.pac_roms_manifest.specs.Sets.{code_of_part, fault_at, file_fault, bytes_named, rom_part_bytes, program_bytes, set_of, digest_of};
+ghost use Rattle.pac_roms_manifest.specs.Sets.{first_answer, needs_table, is_unnamed};
+ghost use Rattle.pac_roms_manifest.specs.Sets.{unnamed_fault, two_programs_fault, digest_differs};
+ghost use Rattle.pac_roms_manifest.specs.Sets.{code_of_part, fault_at, file_fault, bytes_named};
+ghost use Rattle.pac_roms_manifest.specs.Sets.{rom_part_bytes, program_bytes, set_of, digest_of};
 
 use crate::fault::{ManifestCode, SetError, SetFault};
 use crate::manifest::Manifest;
@@ -44,7 +46,8 @@ pub fn load_set_into(
     set: &mut RomSet,
 ) -> Result<(), SetError>
     requires { IfSome assembled (λ rom. length rom.now ≡ program_size) }
-    ensures { SetGives (filled result set.new) (set_of manifest.now files.now (option_copied assembled.entry)) }
+    ensures { SetGives (filled result set.new)
+        (set_of manifest.now files.now (option_copied assembled.entry)) }
 {
     let has_source = assembled.is_some();
     check_names(manifest, has_source)?;
@@ -78,7 +81,8 @@ pub fn digest(set: &RomSet) -> [u8; 20]
 
 /// M2, where a part that has to be there has no table, or its table no file.
 fn check_names(manifest: &Manifest, assembled: bool) -> Result<(), SetFault>
-    ensures { FindsFault result (first_answer (unnamed_fault manifest.now assembled) parts_in_order) }
+    ensures { FindsFault result (first_answer
+        (unnamed_fault manifest.now assembled) parts_in_order) }
 {
     for part in PartName::ALL {
         if is_unnamed(manifest, assembled, part) {
@@ -213,7 +217,8 @@ fn program(
     files: &[Part<'_>],
     assembled: Option<&[u8]>,
 ) -> Result<Vec<u8>, AllocError>
-    ensures { IfOk result (λ rom. rom.items ≡ program_bytes manifest.now files.now (option_copied assembled.entry)) }
+    ensures { IfOk result (λ rom. rom.items ≡ program_bytes manifest.now files.now
+        (option_copied assembled.entry)) }
 {
     if let Some(rom) = assembled {
         return Vec::from_slice(alloc, rom);

@@ -1,7 +1,9 @@
 //! What a manifest says of each part of a ROM set.
 
-ghost use Rattle.std.specs.Prelude.{◌≡◌, IfOk, map, filter_map, option_copied, option_map, string_bytes};
-ghost use Rattle.pac_roms_manifest.specs.Manifests.{program_rom, entry_of_part, file_of_part, digest_of_part};
+ghost use Rattle.std.specs.Prelude.{◌≡◌, IfOk, map, filter_map, option_copied, option_map};
+ghost use Rattle.std.specs.Prelude.{string_bytes};
+ghost use Rattle.pac_roms_manifest.specs.Manifests.{program_rom, entry_of_part, file_of_part};
+ghost use Rattle.pac_roms_manifest.specs.Manifests.{digest_of_part};
 ghost use Rattle.pac_roms_manifest.specs.Parts.{parts_in_order};
 
 use crate::part::PartName;
@@ -121,7 +123,8 @@ impl Manifest {
 
     /// The names of all files that it gives, in the order of the parts: those that have to be read for its set.
     pub fn files(&self, alloc: Global) -> Result<Vec<&str>, AllocError>
-        ensures { IfOk result (λ names. map (λ name. name.now) names.items ≡ filter_map (file_of_part self.now) parts_in_order) }
+        ensures { IfOk result (λ names. map (λ name. name.now) names.items
+            ≡ filter_map (file_of_part self.now) parts_in_order) }
     {
         let mut names = Vec::new(alloc);
         for part in PartName::ALL {

@@ -1,7 +1,8 @@
 //! The parts of a ROM set, and the files that they are in.
 
 ghost use Rattle.std.specs.Prelude.{◌≡◌, Some};
-ghost use Rattle.pac_roms_manifest.specs.Parts.{part_name_text, rom_part_size, parts_in_order, is_named};
+ghost use Rattle.pac_roms_manifest.specs.Parts.{part_name_text, rom_part_size, parts_in_order};
+ghost use Rattle.pac_roms_manifest.specs.Parts.{is_named};
 
 use std::fmt;
 

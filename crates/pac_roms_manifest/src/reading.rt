@@ -4,7 +4,8 @@ ghost use Rattle.std.specs.Prelude.{◌≡◌, Some, codes, option_map};
 ghost use Rattle.toml.specs.Data.{array, get_member, as_str};
 ghost use Rattle.toml.specs.View.{view, items_view, table_view};
 ghost use Rattle.pac_roms_manifest.specs.declared.reading.Misread.TheVariants as misread;
-ghost use Rattle.pac_roms_manifest.specs.Manifests.{optional, digest_form, entry_form, program_form, table_form};
+ghost use Rattle.pac_roms_manifest.specs.Manifests.{optional, digest_form, entry_form};
+ghost use Rattle.pac_roms_manifest.specs.Manifests.{program_form, table_form};
 ghost use Rattle.pac_roms_manifest.specs.Manifests.{manifest_form, document_table, manifest_of};
 ghost use Rattle.pac_roms_manifest.specs.EntriesProofs.{bytes_of_text};
 ghost use Rattle.pac_roms_manifest.specs.Results.{SetGives, ReadsValue, ReadsAs, error_of_misread};
@@ -89,7 +90,8 @@ fn manifest(alloc: Global, table: &Table) -> Result<Manifest, Misread>
 
 /// The entries of the program's ROMs, if the table has them.
 fn program(alloc: Global, table: &Table) -> Result<Option<[PartEntry; 4]>, Misread>
-    ensures { ReadsValue result (optional program_form (get_member (codes "program") (table_view table.now))) }
+    ensures { ReadsValue result (optional program_form
+        (get_member (codes "program") (table_view table.now))) }
 {
     match member(table, "program") {
         Some(value) => Ok(Some(roms(alloc, value)?)),
@@ -147,7 +149,8 @@ fn entry(alloc: Global, value: &Value) -> Result<PartEntry, Misread>
 
 /// The name of the file, if the table gives it.
 fn file(alloc: Global, table: &Table) -> Result<Option<String>, Misread>
-    ensures { ReadsAs bytes_of_text result (optional as_str (get_member (codes "file") (table_view table.now))) }
+    ensures { ReadsAs bytes_of_text result (optional as_str
+        (get_member (codes "file") (table_view table.now))) }
 {
     let Some(value) = member(table, "file") else {
         return Ok(None);
@@ -160,7 +163,8 @@ fn file(alloc: Global, table: &Table) -> Result<Option<String>, Misread>
 
 /// The digest, if the table gives it.
 fn sha1(table: &Table) -> Result<Option<[u8; 20]>, Misread>
-    ensures { ReadsValue result (optional digest_form (get_member (codes "sha1") (table_view table.now))) }
+    ensures { ReadsValue result (optional digest_form
+        (get_member (codes "sha1") (table_view table.now))) }
 {
     let Some(value) = member(table, "sha1") else {
         return Ok(None);
@@ -176,7 +180,8 @@ fn sha1(table: &Table) -> Result<Option<[u8; 20]>, Misread>
 
 /// The value at a key, if the table has it.
 fn member<'a>(table: &'a Table, key: &str) -> Option<&'a Value>
-    ensures { option_map (λ value. view value.now) result ≡ get_member key.now (table_view table.now) }
+    ensures { option_map (λ value. view value.now) result
+        ≡ get_member key.now (table_view table.now) }
 {
     table.get(key)
 }

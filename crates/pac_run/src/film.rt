@@ -109,7 +109,8 @@ impl<F: Out, W: Out> Film<F, W> {
     fn finish(&mut self, outcome: Outcome) -> Result<Outcome, OutputFault>
         ensures outcome { IfOk result (λ it. it ≡ outcome) }
         ensures frames { self.new.frames ≡ self.old.frames }
-        ensures sound { WritesSound W.took W.refused self.old (samples_text (replicate self.old.wave.owed (pos 0))) result self.new }
+        ensures sound { WritesSound W.took W.refused self.old
+            (samples_text (replicate self.old.wave.owed (pos 0))) result self.new }
     {
         match self.wave.finish() {
             Ok(()) => Ok(outcome),
@@ -159,7 +160,8 @@ pub fn record_run<F: Out, W: Out, P: Plays>(
 ) -> Result<Outcome, OutputFault>
     requires { P.playing.ready player.old }
     ensures { RecordsPlay (played P.playing player.old player.new)
-        (writing F.took F.refused frames.old frames.new) (writing W.took W.refused wave.old wave.new) result }
+        (writing F.took F.refused frames.old frames.new)
+        (writing W.took W.refused wave.old wave.new) result }
 {
     let mut wave = WaveFile::begin(wave, FRAME_SAMPLES * player.total());
     if let Err(fault) = wave.flush() {

@@ -12,5 +12,6 @@ pub fn runs_in_parts()
 
 /// What is so of a run under a debugger, by any answer but that its text was refused, is so of the run without one.
 pub fn debuggers_change_nothing<F: Out, W: Out, L: Out, R: Out, T: Out>()
-    ensures { DebuggersChangeNothing F.took F.refused W.took W.refused L.took L.refused R.took R.refused T.took T.refused }
+    ensures { DebuggersChangeNothing F.took F.refused W.took W.refused L.took L.refused R.took
+        R.refused T.took T.refused }
 {}

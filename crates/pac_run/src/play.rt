@@ -4,7 +4,8 @@ ghost use Rattle.std.specs.Prelude.{◌≡◌, ◌+◌, ◌/◌, ◌^◌, ◌<�
 ghost use Rattle.pac_board_course.specs.SinksLaws.{by};
 ghost use Rattle.pac_board_course.specs.Step.{frame_ticks};
 ghost use Rattle.pac_board_course.specs.Stretches.{most_frames};
-ghost use Rattle.pac_run.specs.Playing.{Playing, PlaysInto, course_playing, outcome_between, played};
+ghost use Rattle.pac_run.specs.Playing.{Playing, PlaysInto, course_playing, outcome_between};
+ghost use Rattle.pac_run.specs.Playing.{played};
 
 use pac_board_course::{Board, Course, FRAME_TICKS, Outcome, Sink, Stop};
 use pac_debug::CommandFault;
@@ -23,7 +24,8 @@ pub trait Plays {
     fn play<S: Sink>(&mut self, sink: &mut S) -> Result<Outcome, CommandFault>
         requires ready { playing.ready self.old }
         requires short { playing.frames self.old ≤ most_frames }
-        ensures { PlaysInto (by S.took S.refused) (played playing self.old self.new) sink.old result sink.new };
+        ensures { PlaysInto (by S.took S.refused) (played playing self.old self.new)
+            sink.old result sink.new };
 }
 
 /// What a run came to that began at this time, after so many steps, and ended on this board.

@@ -35,7 +35,8 @@ pub fn resume_all<F: Out, W: Out, L: Out, R: Out, S: Out>(
     to: &mut Writers<F, W, L, R>,
     state: &mut S,
 ) -> Result<Outcome, RunFault>
-    ensures { Resumes inputs.now (option_copied from.entry) (writings F.took F.refused W.took W.refused
+    ensures { Resumes inputs.now (option_copied from.entry)
+        (writings F.took F.refused W.took W.refused
         L.took L.refused R.took R.refused to.old to.new)
         (writing S.took S.refused state.old state.new) result }
 {

@@ -86,8 +86,10 @@ pub(crate) fn write_all<F: Out, W: Out, L: Out, R: Out, P: Plays>(
     to: &mut Writers<F, W, L, R>,
 ) -> Result<Outcome, RunFault>
     requires { P.playing.ready player.old }
-    ensures { WritesPlay (played P.playing player.old player.new) (listing_in (option_copied inputs.now.source) program.now)
-        (writings F.took F.refused W.took W.refused L.took L.refused R.took R.refused to.old to.new) result }
+    ensures { WritesPlay (played P.playing player.old player.new)
+        (listing_in (option_copied inputs.now.source) program.now)
+        (writings F.took F.refused W.took W.refused L.took L.refused R.took R.refused to.old to.new)
+        result }
 {
     let total = player.total();
     if let Err(fault) = list(&mut to.listing, inputs.source, program) {
@@ -119,7 +121,8 @@ pub(crate) fn run_from<F: Out, W: Out, L: Out, R: Out>(
     from: Option<&[u8]>,
     to: &mut Writers<F, W, L, R>,
 ) -> Result<RunEnd, RunFault>
-    ensures { RunsTo inputs.now (option_copied from.entry) (writings F.took F.refused W.took W.refused
+    ensures { RunsTo inputs.now (option_copied from.entry)
+        (writings F.took F.refused W.took W.refused
         L.took L.refused R.took R.refused to.old to.new) result }
 {
     let Prepared {

@@ -46,7 +46,8 @@ fn watch_new<S: Sink, T: Out>(
 ) -> Result<Outcome, CommandFault>
     requires { session ≡ session_at_start session.setting 0 }
     ensures { PlaysInto (by S.took S.refused)
-        (session_played (writing T.took T.refused text.old text.new) session (lines commands.now) (text.new ≡ text.old))
+        (session_played (writing T.took T.refused text.old text.new) session
+        (lines commands.now) (text.new ≡ text.old))
         sink.old result sink.new }
 {
     let mut words = Counted::new(text);

@@ -79,8 +79,10 @@ pub fn create_pair<D: FileSystem>(
     files: &AsmFiles,
 ) -> Result<AsmOutputs<D::File>, Failure<'static>>
     ensures { Opens
-        (λ outputs. AllBegun D.handling disk.old (asm_outputs (told_asm files.now)) (asm_output_files outputs) disk.new)
-        (λ output. FirstUnbegun D.handling disk.old (asm_outputs (told_asm files.now)) output disk.new) result }
+        (λ outputs. AllBegun D.handling disk.old (asm_outputs (told_asm files.now))
+        (asm_output_files outputs) disk.new)
+        (λ output. FirstUnbegun D.handling disk.old (asm_outputs (told_asm files.now))
+        output disk.new) result }
 {
     let Some(rom) = disk.create(files.rom) else {
         return Err(Failure::Write(Target::Rom, 0));

@@ -47,7 +47,8 @@ fn debug_over<F: Out, R: Out, T: Out>(
     report: &mut R,
     text: &mut T,
 ) -> Result<Outcome, Failure<'static>>
-    ensures { watching F.took F.refused (writing R.took R.refused report.old report.new) (writing T.took T.refused text.old text.new)
+    ensures { watching F.took F.refused (writing R.took R.refused report.old report.new)
+        (writing T.took T.refused text.old text.new)
         commands.now result inputs.now outputs.old outputs.new }
 {
     let mut to = Writers {
@@ -73,7 +74,8 @@ pub fn record_watched<D: FileSystem, R: Out, T: Out>(
     ensures { RecordsRun D.handling
         (watching D.File.took D.File.refused (writing R.took R.refused report.old report.new)
         (writing T.took T.refused text.old text.new) commands.now)
-        ((report.new ≡ report.old) × (text.new ≡ text.old)) (from_power_on (told_run files.now.run)) given.now named.now
+        ((report.new ≡ report.old) × (text.new ≡ text.old))
+        (from_power_on (told_run files.now.run)) given.now named.now
         disk.old result disk.new }
 {
     let Ok(parts) = parts_of(alloc, named) else {
@@ -109,7 +111,13 @@ pub fn debug<D: FileSystem, R: Out, T: Out, C: Teller>(
         (watching D.File.took D.File.refused (writing R.took R.refused report.old report.new)
         (writing T.took T.refused text.old text.new))
         ((report.new ≡ report.old) × (text.new ≡ text.old))
-        (record { tells = C.tells; explains = C.explains; old = console.old; new = console.new; status = result })
+        (record {
+          tells = C.tells;
+          explains = C.explains;
+          old = console.old;
+          new = console.new;
+          status = result;
+        })
         (told_debug files.now) disk.old disk.new }
     ensures most { result ≤ told.most_status }
 {

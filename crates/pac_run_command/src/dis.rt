@@ -18,7 +18,8 @@ const MOST_BYTES: usize = 65_536;
 
 /// Writes the instructions of bytes, from address 0000H on, a line each.
 fn put_text<W: Out>(text: &mut W, bytes: &[u8]) -> Result<(), WriteFault>
-    ensures { WritesWholeText (writing W.took W.refused text.old text.new) (disassembly bytes.now) result }
+    ensures { WritesWholeText (writing W.took W.refused text.old text.new)
+        (disassembly bytes.now) result }
 {
     let mut file = Counted::new(text);
     let written = put_disassembly(&mut file, bytes);
@@ -48,7 +49,8 @@ pub fn dis<'a, D: FileSystem, W: Out>(
     name: &'a str,
 ) -> Result<(), Failure<'a>>
     ensures { TellsDisassembly (D.finds disk.now)
-        (λ bytes answer. WritesDisassembly bytes (writing W.took W.refused text.old text.new) answer)
+        (λ bytes answer. WritesDisassembly bytes
+        (writing W.took W.refused text.old text.new) answer)
         (text.new ≡ text.old) name.now result }
 {
     match read_file(alloc, disk, name) {

@@ -4,7 +4,8 @@ ghost use Rattle.std.specs.Prelude.{◌≡◌, map, option_copied, option_to_lis
 ghost use Rattle.pac_run_options.specs.CommandLineProofs.{told_play};
 ghost use Rattle.pac_run_files.specs.Files.{AllBegun, FirstUnbegun, IsBegun, IsLetGo};
 ghost use Rattle.pac_run_command.specs.FailuresProofs.{Opens};
-ghost use Rattle.pac_run_command.specs.Outputs.{InTurn, IsSettled, IsWrittenOut, Settles, by_call, run_output_files};
+ghost use Rattle.pac_run_command.specs.Outputs.{InTurn, IsSettled, IsWrittenOut, Settles, by_call};
+ghost use Rattle.pac_run_command.specs.Outputs.{run_output_files};
 ghost use Rattle.pac_run_command.specs.Outputs.{run_outputs, state_output, takes_place_by};
 ghost use Rattle.pac_run_command.specs.OutputsProofs.{told_outputs, told_wanted};
 ghost use Rattle.pac_run_command.specs.declared.failure.Target.TheVariants.{Of};
@@ -56,7 +57,11 @@ pub type RunAnswer = Result<Outcome, Failure<'static>>;
 
 /// An output of the film: a draft where the outputs are to take their places once all of them are whole.
 fn of_film<'a>(output: Output, path: &'a str, is_draft: bool) -> Wanted<'a>
-    ensures { told_wanted result ≡ record { output = Of output; path = path.entry.now; is_draft = is_draft } }
+    ensures { told_wanted result ≡ record {
+      output = Of output;
+      path = path.entry.now;
+      is_draft = is_draft;
+    } }
 {
     Wanted {
         output: Target::Of(output),
@@ -120,8 +125,10 @@ pub fn begin_outputs<D: FileSystem>(
     wanted: &RunOutputs,
 ) -> Result<Outputs<D::File>, Failure<'static>>
     ensures { Opens
-        (λ outputs. AllBegun D.handling disk.old (told_outputs wanted.now) (run_output_files outputs) disk.new)
-        (λ output. FirstUnbegun D.handling disk.old (told_outputs wanted.now) output disk.new) result }
+        (λ outputs. AllBegun D.handling disk.old (told_outputs wanted.now)
+        (run_output_files outputs) disk.new)
+        (λ output. FirstUnbegun D.handling disk.old (told_outputs wanted.now) output disk.new)
+        result }
 {
     let Some(frames) = begin(disk, &wanted.frames) else {
         return Err(Failure::Write(wanted.frames.output, 0));
@@ -174,7 +181,8 @@ fn write_out<D: FileSystem>(
     file: &D::File,
     ran: RunAnswer,
 ) -> RunAnswer
-    ensures { IsWrittenOut D.handling disk.old (told_wanted wanted.now) file.now ran.entry result disk.new }
+    ensures { IsWrittenOut D.handling disk.old (told_wanted wanted.now) file.now
+        ran.entry result disk.new }
 {
     match ran {
         Ok(outcome) if wanted.is_draft => after_call(wanted.output, outcome, disk.sync(file)),
@@ -189,7 +197,8 @@ fn put_in_place<D: FileSystem>(
     file: D::File,
     outcome: Outcome,
 ) -> RunAnswer
-    ensures { takes_place_by D.handling wanted.now.is_draft disk.old wanted.now.output wanted.now.path.now file outcome result disk.new }
+    ensures { takes_place_by D.handling wanted.now.is_draft disk.old wanted.now.output
+        wanted.now.path.now file outcome result disk.new }
 {
     if wanted.is_draft {
         return after_call(wanted.output, outcome, disk.publish(wanted.path, file));
@@ -205,7 +214,8 @@ fn settle_output<D: FileSystem>(
     file: D::File,
     ran: RunAnswer,
 ) -> RunAnswer
-    ensures { IsSettled D.handling disk.old (told_wanted wanted.now) file ran.entry result disk.new }
+    ensures { IsSettled D.handling disk.old (told_wanted wanted.now) file
+        ran.entry result disk.new }
 {
     match ran {
         Ok(outcome) => put_in_place(disk, wanted, file, outcome),
@@ -223,7 +233,8 @@ fn write_state_out<D: FileSystem>(
     file: &Option<D::File>,
     ran: RunAnswer,
 ) -> RunAnswer
-    ensures { InTurn (IsWrittenOut D.handling) disk.old (map told_wanted (option_to_list wanted.entry)) (option_to_list file.now) ran.entry
+    ensures { InTurn (IsWrittenOut D.handling) disk.old
+        (map told_wanted (option_to_list wanted.entry)) (option_to_list file.now) ran.entry
         result disk.new }
 {
     let Some(saved) = wanted else {
@@ -242,7 +253,8 @@ fn settle_state<D: FileSystem>(
     file: Option<D::File>,
     ran: RunAnswer,
 ) -> RunAnswer
-    ensures { InTurn (IsSettled D.handling) disk.old (map told_wanted (option_to_list wanted.entry)) (option_to_list file) ran.entry
+    ensures { InTurn (IsSettled D.handling) disk.old (map told_wanted (option_to_list wanted.entry))
+        (option_to_list file) ran.entry
         result disk.new }
 {
     let Some(saved) = wanted else {
@@ -261,7 +273,8 @@ fn write_all_out<D: FileSystem>(
     outputs: &Outputs<D::File>,
     ran: RunAnswer,
 ) -> RunAnswer
-    ensures { InTurn (IsWrittenOut D.handling) disk.old (told_outputs wanted.now) (run_output_files outputs.now) ran.entry result disk.new }
+    ensures { InTurn (IsWrittenOut D.handling) disk.old (told_outputs wanted.now)
+        (run_output_files outputs.now) ran.entry result disk.new }
 {
     let ran = write_out(disk, &wanted.frames, &outputs.frames, ran);
     let ran = write_out(disk, &wanted.wave, &outputs.wave, ran);
@@ -276,7 +289,8 @@ fn settle_all<D: FileSystem>(
     outputs: Outputs<D::File>,
     ran: RunAnswer,
 ) -> RunAnswer
-    ensures { InTurn (IsSettled D.handling) disk.old (told_outputs wanted.now) (run_output_files outputs) ran.entry result disk.new }
+    ensures { InTurn (IsSettled D.handling) disk.old (told_outputs wanted.now)
+        (run_output_files outputs) ran.entry result disk.new }
 {
     let Outputs {
         frames,
@@ -298,7 +312,8 @@ pub fn settle<D: FileSystem>(
     outputs: Outputs<D::File>,
     ran: RunAnswer,
 ) -> RunAnswer
-    ensures { Settles D.handling (told_outputs wanted.now) (run_output_files outputs) disk.old ran.entry result disk.new }
+    ensures { Settles D.handling (told_outputs wanted.now) (run_output_files outputs) disk.old
+        ran.entry result disk.new }
 {
     let ran = write_all_out(disk, wanted, &outputs, ran);
     settle_all(disk, wanted, outputs, ran)

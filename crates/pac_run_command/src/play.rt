@@ -37,7 +37,8 @@ fn run_or_resume<F: Out, W: Out, L: Out, R: Out, S: Out>(
 ) -> Result<Outcome, RunFault>
     ensures { RunsOrResumes inputs.now (option_copied from.entry)
         (writings F.took F.refused W.took W.refused L.took L.refused R.took R.refused to.old to.new)
-        (writing (took_if_there S.took) (refused_if_there S.refused) state.old state.new) state.old result }
+        (writing (took_if_there S.took) (refused_if_there S.refused) state.old state.new) state.old
+        result }
 {
     if !names_state(from, state) {
         return run_all(alloc, inputs, to);
@@ -71,7 +72,8 @@ fn run_over<F: Out, R: Out>(
     outputs: &mut Outputs<F>,
     report: &mut R,
 ) -> Result<Outcome, Failure<'static>>
-    ensures { performing F.took F.refused (writing R.took R.refused report.old report.new) (option_copied from.entry)
+    ensures { performing F.took F.refused (writing R.took R.refused report.old report.new)
+        (option_copied from.entry)
         result inputs.now outputs.old outputs.new }
 {
     let mut to = Writers {
@@ -94,8 +96,10 @@ pub fn record<D: FileSystem, R: Out>(
     named: &[NamedFile],
 ) -> Result<Outcome, Failure<'static>>
     ensures { RecordsRun D.handling
-        (performing D.File.took D.File.refused (writing R.took R.refused report.old report.new) (option_copied from.entry))
-        (report.new ≡ report.old) (told_play files.now) given.now named.now disk.old result disk.new }
+        (performing D.File.took D.File.refused (writing R.took R.refused report.old report.new)
+        (option_copied from.entry))
+        (report.new ≡ report.old) (told_play files.now) given.now named.now
+        disk.old result disk.new }
 {
     let Ok(parts) = parts_of(alloc, named) else {
         return Err(Failure::Memory);
@@ -112,7 +116,13 @@ pub fn record<D: FileSystem, R: Out>(
 
 /// The status of a run that ended or failed; a failure is told.
 pub(crate) fn end<C: Teller>(console: &mut C, ran: Result<Outcome, Failure>) -> u8
-    ensures ends { RunEnds (record { tells = C.tells; explains = C.explains; old = console.old; new = console.new; status = result })
+    ensures ends { RunEnds (record {
+      tells = C.tells;
+      explains = C.explains;
+      old = console.old;
+      new = console.new;
+      status = result;
+    })
         ran.entry }
     ensures most { result ≤ told.most_status }
 {
@@ -133,8 +143,15 @@ pub fn play<D: FileSystem, R: Out, C: Teller>(
     files: &PlayFiles,
 ) -> u8
     ensures plays { PlaysRun (D.finds disk.old) D.handling
-        (performing D.File.took D.File.refused (writing R.took R.refused report.old report.new)) (report.new ≡ report.old)
-        (record { tells = C.tells; explains = C.explains; old = console.old; new = console.new; status = result })
+        (performing D.File.took D.File.refused (writing R.took R.refused report.old report.new))
+        (report.new ≡ report.old)
+        (record {
+          tells = C.tells;
+          explains = C.explains;
+          old = console.old;
+          new = console.new;
+          status = result;
+        })
         (told_play files.now) disk.old disk.new }
     ensures most { result ≤ told.most_status }
 {

@@ -61,7 +61,13 @@ fn words_of<R: Env + AllocGlobal>(rt: &R) -> io::Result<Vec<String>> {
 /// Tells that the words can't be had, and answers the status.
 fn tell_words<C: Teller>(console: &mut C, kind: io::ErrorKind) -> u8
     ensures unheard { IsUnheard
-        (record { tells = C.tells; explains = C.explains; old = console.old; new = console.new; status = result }) }
+        (record {
+          tells = C.tells;
+          explains = C.explains;
+          old = console.old;
+          new = console.new;
+          status = result;
+        }) }
     ensures most { result ≤ told.most_status }
 {
     if kind == io::ErrorKind::OutOfMemory {
@@ -81,8 +87,15 @@ pub(crate) fn work_unkept<D: FileSystem, C: Teller>(
     ensures status { result ≤ told.most_status }
     ensures works { WorksUnkept (without_output (D.finds disk.old) D.handling
         (assembling D.File.took D.File.refused)
-        (record { tells = C.tells; explains = C.explains; old = console.old; new = console.new; status = result }))
-        (faults_of (map string_bytes words.now)) (request_of (map string_bytes words.now)) disk.old disk.new }
+        (record {
+          tells = C.tells;
+          explains = C.explains;
+          old = console.old;
+          new = console.new;
+          status = result;
+        }))
+        (faults_of (map string_bytes words.now))
+        (request_of (map string_bytes words.now)) disk.old disk.new }
 {
     match options(alloc, words) {
         Ok(Request::Asm(files)) => end(console, asm(alloc, disk, &files)),
@@ -144,9 +157,17 @@ pub fn work<D: FileSystem, R: Out, T: Out, C: Teller>(
     ensures words { faults_of (map string_bytes words.now) ≢ []
         → told.IsWordsStatus (faults_of (map string_bytes words.now)) result }
     ensures works { Works (desk_of (D.finds disk.old) D.handling D.File.took D.File.refused
-        (writing R.took R.refused report.old report.new) (writing T.took T.refused text.old text.new)
-        (record { tells = C.tells; explains = C.explains; old = console.old; new = console.new; status = result }))
-        (faults_of (map string_bytes words.now)) (request_of (map string_bytes words.now)) disk.old disk.new }
+        (writing R.took R.refused report.old report.new)
+        (writing T.took T.refused text.old text.new)
+        (record {
+          tells = C.tells;
+          explains = C.explains;
+          old = console.old;
+          new = console.new;
+          status = result;
+        }))
+        (faults_of (map string_bytes words.now))
+        (request_of (map string_bytes words.now)) disk.old disk.new }
 {
     match options(alloc, words) {
         Ok(Request::Asm(files)) => end(console, asm(alloc, disk, &files)),
@@ -159,7 +180,13 @@ pub fn work<D: FileSystem, R: Out, T: Out, C: Teller>(
 
 /// Tells a failure, and answers its status.
 pub(crate) fn tell<C: Teller>(console: &mut C, failure: Failure) -> u8
-    ensures fails { FailureEnds (record { tells = C.tells; explains = C.explains; old = console.old; new = console.new; status = result })
+    ensures fails { FailureEnds (record {
+      tells = C.tells;
+      explains = C.explains;
+      old = console.old;
+      new = console.new;
+      status = result;
+    })
         failure.entry }
     ensures most { result ≤ told.most_status }
 {
@@ -169,7 +196,13 @@ pub(crate) fn tell<C: Teller>(console: &mut C, failure: Failure) -> u8
 
 /// Tells that an output refused after so many bytes, and answers the status.
 fn refuse<C: Teller>(console: &mut C, output: Output, count: u64) -> u8
-    ensures fails { FailureEnds (record { tells = C.tells; explains = C.explains; old = console.old; new = console.new; status = result })
+    ensures fails { FailureEnds (record {
+      tells = C.tells;
+      explains = C.explains;
+      old = console.old;
+      new = console.new;
+      status = result;
+    })
         (Write (Of output) count) }
     ensures most { result ≤ told.most_status }
 {
@@ -178,7 +211,13 @@ fn refuse<C: Teller>(console: &mut C, output: Output, count: u64) -> u8
 
 /// The status of work that is done or that failed; a failure is told.
 fn end<C: Teller>(console: &mut C, done: Result<(), Failure>) -> u8
-    ensures ends { WorkEnds (record { tells = C.tells; explains = C.explains; old = console.old; new = console.new; status = result })
+    ensures ends { WorkEnds (record {
+      tells = C.tells;
+      explains = C.explains;
+      old = console.old;
+      new = console.new;
+      status = result;
+    })
         done.entry }
     ensures most { result ≤ told.most_status }
 {
@@ -191,7 +230,13 @@ fn end<C: Teller>(console: &mut C, done: Result<(), Failure>) -> u8
 /// Tells why the words are no command line, or what they ask to be told of it; where that can't be written to standard output,
 /// this is told as a failure.
 fn explain<C: Teller>(console: &mut C, error: &clap::Error) -> u8
-    ensures ends { WordsEnd (record { tells = C.tells; explains = C.explains; old = console.old; new = console.new; status = result })
+    ensures ends { WordsEnd (record {
+      tells = C.tells;
+      explains = C.explains;
+      old = console.old;
+      new = console.new;
+      status = result;
+    })
         (kind_of error.now) }
     ensures status { told.IsLineStatus (kind_of error.now) result }
 {

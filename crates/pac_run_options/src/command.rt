@@ -37,7 +37,8 @@ pub fn pacboard<'a>(alloc: Global) -> Result<Command<'a>, AllocError>
 /// The program before its subcommands.
 fn program<'a>(alloc: Global) -> Command<'a>
     ensures { app_of result ≡ record {
-      top = record (new_shape (codes "pacboard")) { has_version = true; subcommand_required = true; disable_help_subcommand = true };
+      top = record (new_shape (codes "pacboard"))
+          { has_version = true; subcommand_required = true; disable_help_subcommand = true };
       subs = [];
     } }
 {

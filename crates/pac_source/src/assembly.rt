@@ -32,7 +32,8 @@ fn listing_size(program: &Program, source: &[u8]) -> u64
 
 /// Writes the listing of a program.
 fn write_to<W: Out>(writer: &mut W, program: &Program, source: &[u8]) -> Result<(), WriteFault>
-    ensures { LeavesText W.took W.refused writer.old (texts.listing program.now source.now) result writer.new }
+    ensures { LeavesText W.took W.refused writer.old
+        (texts.listing program.now source.now) result writer.new }
 {
     let mut file = Counted::new(writer);
     let written = write_listing(&mut file, program, source);

@@ -27,7 +27,9 @@ pub extern "C" fn pac_assemble(
     listing: &mut [u8],
     told: &mut ToldBytes,
 ) -> u32
-    ensures { calls.AnswersAndTells (λ answer. calls.AssemblesInto source.now rom.old listing.old answer rom.new listing.new) result told.new.bytes }
+    ensures { calls.AnswersAndTells (λ answer.
+        calls.AssemblesInto source.now rom.old listing.old answer rom.new listing.new) result
+        told.new.bytes }
 {
     let answer = assembly::assemble_into(alloc, source, rom, listing);
     told.bytes = bytes_of(&told_of(answer));

@@ -1,7 +1,8 @@
 //! Sprites of the picture: the pixels of a sprite, what its bytes say, and the places that it covers.
 #![tactic(auto)]
 
-ghost use Rattle.std.specs.Prelude.{◌≡◌, ◌<◌, ◌≤◌, ◌≤ℤ◌, ◌+ℤ◌, ℕ, pos, negsuc, nat_le, nat_lt, ◌&&◌, length, slice_index, EachIndex};
+ghost use Rattle.std.specs.Prelude.{◌≡◌, ◌<◌, ◌≤◌, ◌≤ℤ◌, ◌+ℤ◌, ℕ, pos, negsuc, nat_le, nat_lt};
+ghost use Rattle.std.specs.Prelude.{◌&&◌, length, slice_index, EachIndex};
 ghost use Rattle.std.specs.Prelude.{Some, None, true, if◌then◌else◌, IfSome, is_some};
 ghost use Rattle.std.specs.Int.Signed.{le_z};
 ghost use Rattle.pac_sprites.specs.Sprites as sprites;
@@ -59,7 +60,8 @@ fn place_within(first: i16, place: u16) -> Option<u8>
 /// The first column at which sprites show that is not left of a place, or the end of those columns.
 #[inline]
 fn column_from(place: i32) -> u16
-    ensures first { (x : ℕ) → sprites.first_column ≤ x → x < sprites.end_column → nat_le result x ≡ le_z place (pos x) }
+    ensures first { (x : ℕ) → sprites.first_column ≤ x → x < sprites.end_column →
+        nat_le result x ≡ le_z place (pos x) }
     ensures low { sprites.first_column ≤ result }
     ensures high { result ≤ sprites.end_column }
 {
@@ -94,7 +96,8 @@ impl Sprite {
     /// (5060H and 5061H for the first), in the order of their addresses.
     #[inline]
     pub fn of(attributes: [u8; 2], coordinates: [u8; 2]) -> Sprite
-        ensures sprite { result ≡ sprites.sprite_of (slice_index attributes 0) (slice_index attributes 1)
+        ensures sprite { result ≡ sprites.sprite_of (slice_index attributes 0)
+            (slice_index attributes 1)
             (slice_index coordinates 0) (slice_index coordinates 1) }
         ensures code { result.code < sprites_proofs.sprite_codes }
         ensures colour { result.colour < sprites.sprite_colours }
@@ -151,7 +154,8 @@ impl Sprite {
         ensures end { result.end ≤ sprites.end_column }
         // where there are any, they are columns of the sprite's box
         ensures boxed { result.start < result.end →
-            (self.now.left ≤ℤ pos result.start) × (pos result.end ≤ℤ (self.now.left +ℤ pos sprites.sprite_side)) }
+            (self.now.left ≤ℤ pos result.start)
+            × (pos result.end ≤ℤ (self.now.left +ℤ pos sprites.sprite_side)) }
     {
         let left = i32::from(self.left);
         column_from(left)..column_from(left + 16)
@@ -161,7 +165,8 @@ impl Sprite {
     #[inline]
     pub fn line_at(&self, y: u8) -> Option<u8>
         ensures line { result ≡ (if sprites.is_in_box self.now.top y
-            then Some (sprites.flipped_place self.now.flip_y (sprites.box_place self.now.top y)) else None) }
+            then Some (sprites.flipped_place self.now.flip_y (sprites.box_place self.now.top y))
+            else None) }
         ensures below { IfSome result (λ line. line < sprites.sprite_side) }
     {
         let down = place_within(self.top, u16::from(y))?;
@@ -172,7 +177,8 @@ impl Sprite {
     #[inline]
     pub fn column_at(&self, x: u16) -> u8
         requires { sprites.is_column_of self.now x ≡ true }
-        ensures column { result ≡ sprites.flipped_place self.now.flip_x (sprites.box_place self.now.left x) }
+        ensures column { result ≡ sprites.flipped_place self.now.flip_x
+            (sprites.box_place self.now.left x) }
         ensures below { result < sprites.sprite_side }
     {
         flipped(self.flip_x, (i32::from(x) - i32::from(self.left)) as u8)
@@ -185,8 +191,10 @@ impl Sprite {
         requires code { self.now.code < sprites_proofs.sprite_codes }
         ensures covered { is_some result ≡ sprites.is_in_box self.now.top y }
         ensures values { IfSome result (λ values. EachIndex values (λ across.
-            slice_index values across ≡ sprites_proofs.boxed_of rom.now self.now across (sprites.box_place self.now.top y))) }
-        ensures below { IfSome result (λ values. EachIndex values (λ across. slice_index values across < 4)) }
+            slice_index values across ≡ sprites_proofs.boxed_of rom.now self.now across
+            (sprites.box_place self.now.top y))) }
+        ensures below { IfSome result (λ values.
+            EachIndex values (λ across. slice_index values across < 4)) }
     {
         let down = place_within(self.top, u16::from(y))?;
         Some(self.boxed_line(rom, down))

@@ -18,7 +18,8 @@ use std::alloc::Global;
 /// The fields in a state file of a board whose ROM set has this digest, as they stand there; or the first of V1, V2, V3, V5, V6 and V4 that is
 /// wrong with the file. Takes no memory.
 pub fn read_file<'a>(digest: &[u8; 20], bytes: &'a [u8]) -> Result<Fields<'a>, LoadFault>
-    ensures { (set : Parts) → digest_of set ≡ digest.now → saved_proofs.FindsFields set bytes.now result }
+    ensures { (set : Parts) → digest_of set ≡ digest.now →
+        saved_proofs.FindsFields set bytes.now result }
 {
     if let Some(fault) = fault_of(digest, bytes) {
         return Err(fault);
@@ -50,7 +51,8 @@ fn bring_up(board: &mut Board, version: u16)
 /// of the picture that have passed since the last blank are composed. Refused with the first of V1, V2, V3, V5, V6 and V4 that is wrong with
 /// the file, and then for want of memory. So exactly the texts of states in their ranges are taken.
 pub fn load_with(alloc: Global, bytes: &[u8], set: &RomSet) -> Result<Box<Board>, LoadFault>
-    ensures answer { saved_proofs.LoadsBoard set.now bytes.now (saved_proofs.refused_with set.now (unboxed result)) }
+    ensures answer { saved_proofs.LoadsBoard set.now bytes.now
+        (saved_proofs.refused_with set.now (unboxed result)) }
     ensures files { Accepts set.now bytes.now (saved_proofs.refused_with set.now (unboxed result)) }
 {
     let fields = read_file(&digest(set), bytes)?;

@@ -1,7 +1,8 @@
 //! Instructions: a row of the table with its fields and its immediate filled in.
 
 ghost use Rattle.std.specs.Prelude.{◌≡◌, ◌<◌, ◌≤◌, ◌↔◌, IsTrue, IsSome, IfSome, length};
-ghost use Rattle.pac_table.specs.Instructions.{IsInstruction, row_count, pattern_of, operands_of, effect_of, opcode_of, code};
+ghost use Rattle.pac_table.specs.Instructions.{IsInstruction, row_count, pattern_of, operands_of};
+ghost use Rattle.pac_table.specs.Instructions.{effect_of, opcode_of, code};
 ghost use Rattle.pac_table.specs.Instructions.{least_ticks, most_ticks, ticks_of, ticks_other_of};
 ghost use Rattle.pac_table.specs.Patterns.{IsDisplacement, IsSignedByte, word_limit, lists};
 ghost use Rattle.pac_table.specs.PatternsLaws.{longest_code};
@@ -36,7 +37,13 @@ impl Model for Instr {
 
 /// Whether there is such a row, and each value is one that it takes.
 fn is_instruction(row: u16, p: u8, q: u8, word: u16, disp: i8) -> bool
-    ensures { IsTrue result ↔ IsInstruction (record { row = row; p = p; q = q; word = word; disp = disp }) }
+    ensures { IsTrue result ↔ IsInstruction (record {
+      row = row;
+      p = p;
+      q = q;
+      word = word;
+      disp = disp;
+    }) }
 {
     if row as usize >= rows().len() {
         return false;
@@ -53,8 +60,10 @@ impl Instr {
     /// field doesn't list its value, n, nn, d or e is out of range, or what the row doesn't have
     /// isn't 0.
     pub fn new(row: u16, p: u8, q: u8, word: u16, disp: i8) -> Option<Self>
-        ensures valid { IsSome result ↔ IsInstruction (record { row = row; p = p; q = q; word = word; disp = disp }) }
-        ensures value { IfSome result (λ i. i ≡ record { row = row; p = p; q = q; word = word; disp = disp }) }
+        ensures valid { IsSome result ↔ IsInstruction
+            (record { row = row; p = p; q = q; word = word; disp = disp }) }
+        ensures value { IfSome result (λ i. i
+            ≡ record { row = row; p = p; q = q; word = word; disp = disp }) }
     {
         if is_instruction(row, p, q, word, disp) {
             Some(Instr::of(row, p, q, word, disp))

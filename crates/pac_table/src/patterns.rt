@@ -24,7 +24,8 @@ pub enum Page {
 }
 
 impl Page {
-    ghost use Rattle.pac_table.specs.Patterns.{page_prefix, has_page_prefix, is_displacement_first, opcode_place, immediate_place};
+    ghost use Rattle.pac_table.specs.Patterns.{page_prefix, has_page_prefix, is_displacement_first};
+    ghost use Rattle.pac_table.specs.Patterns.{opcode_place, immediate_place};
 
     /// Whether bytes begin with the page's prefix.
     #[inline]
@@ -121,7 +122,8 @@ pub enum Field {
 }
 
 impl Field {
-    ghost use Rattle.pac_table.specs.Patterns.{field_weight, field_size, lacks_six, lists, value_in_field};
+    ghost use Rattle.pac_table.specs.Patterns.{field_weight, field_size, lacks_six, lists};
+    ghost use Rattle.pac_table.specs.Patterns.{value_in_field};
 
     /// The worth of the field's lowest bit.
     #[inline]
@@ -212,7 +214,8 @@ impl Immediate {
     /// How many bytes follow the opcode byte.
     #[inline]
     pub fn size(self) -> u8
-        ensures value { (word : ℕ) (displacement : ℤ) → length (immediate_bytes self word displacement) ≡ result }
+        ensures value { (word : ℕ) (displacement : ℤ) →
+            length (immediate_bytes self word displacement) ≡ result }
         ensures bound { result ≤ longest_immediate }
     {
         match self {

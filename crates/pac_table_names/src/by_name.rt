@@ -5,7 +5,8 @@ ghost use Rattle.std.specs.Prelude.{◌≡◌, ◌<◌, ◌≤◌, length, slice
 ghost use Rattle.std.specs.List.{filter, All};
 ghost use Rattle.std.specs.Option.{option_copied};
 ghost use Rattle.pac_table_names.specs.ByName.{AreNamed, rows_named, family_value};
-ghost use Rattle.pac_table_names.specs.WordsProofs.{word_list, row_list, letter_list, begins_with, is_text, letters_of};
+ghost use Rattle.pac_table_names.specs.WordsProofs.{word_list, row_list, letter_list, begins_with};
+ghost use Rattle.pac_table_names.specs.WordsProofs.{is_text, letters_of};
 ghost use Rattle.pac_table_names.specs.Names.{is_operation, is_written};
 ghost use Rattle.pac_table.specs.Instructions.{row_count};
 

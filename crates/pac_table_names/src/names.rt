@@ -4,7 +4,8 @@
 ghost use Rattle.std.specs.Prelude.{◌≡◌, find};
 ghost use Rattle.std.specs.List.{filter};
 ghost use Rattle.pac_table_names.specs.WordsProofs.{begins_name, every_name};
-ghost use Rattle.pac_table_names.specs.Names.{text_of_name, name_at, value_of_name, name_of, is_written, is_same_name};
+ghost use Rattle.pac_table_names.specs.Names.{text_of_name, name_at, value_of_name, name_of};
+ghost use Rattle.pac_table_names.specs.Names.{is_written, is_same_name};
 
 use crate::by_name::is_written;
 use pac_table::{Name, NameList};

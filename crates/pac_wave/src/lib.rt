@@ -45,7 +45,8 @@ impl Model for Wave {
 
 /// Samples while sound is off.
 fn silence(samples: &mut [i16])
-    ensures { (prom registers : List ℕ) → (all : Accumulators) → samples.new ≡ sound_samples prom registers false all (length samples.old) }
+    ensures { (prom registers : List ℕ) → (all : Accumulators) →
+        samples.new ≡ sound_samples prom registers false all (length samples.old) }
 {
     samples.fill(0);
 }
@@ -80,7 +81,8 @@ impl Wave {
     /// low four bits count; register n is the one at address 5040H + n. While sound is off the sample is 0 and the
     /// accumulators stay; else they grow by their voices' frequencies after the sample.
     pub fn tick(&mut self, prom: &[u8; 256], registers: &[u8; 32], on: bool) -> i16
-        ensures sample { result ≡ spec.sound_sample prom.now registers.now (spec.accumulator self.old) on }
+        ensures sample { result ≡ spec.sound_sample prom.now registers.now
+            (spec.accumulator self.old) on }
         ensures accumulators { self.new ≡ spec.accumulators_after registers.now on self.old }
         ensures within { wave_proofs.IsSample result }
     {
@@ -91,8 +93,10 @@ impl Wave {
     #[inline(always)]
     pub fn sample(&mut self, settings: &Settings, on: bool) -> i16
         ensures sample { result
-            ≡ spec.sound_sample settings.now.prom settings.now.registers (spec.accumulator self.old) on }
-        ensures accumulators { self.new ≡ spec.accumulators_after settings.now.registers on self.old }
+            ≡ spec.sound_sample settings.now.prom settings.now.registers
+            (spec.accumulator self.old) on }
+        ensures accumulators { self.new ≡ spec.accumulators_after
+            settings.now.registers on self.old }
         ensures within { wave_proofs.IsSample result }
     {
         if !on {
@@ -107,8 +111,10 @@ impl Wave {
     #[tactic(auto, using(crate::proofs::Batch::stays))]
     pub fn ticks(&mut self, settings: &Settings, on: bool, samples: &mut [i16])
         ensures samples { samples.new
-            ≡ sound_samples settings.now.prom settings.now.registers on self.old (length samples.old) }
-        ensures accumulators { self.new ≡ accumulators_after_many settings.now.registers on self.old (length samples.old) }
+            ≡ sound_samples settings.now.prom settings.now.registers on
+            self.old (length samples.old) }
+        ensures accumulators { self.new ≡ accumulators_after_many settings.now.registers on
+            self.old (length samples.old) }
     {
         if on {
             self.positions.fill(settings, samples);

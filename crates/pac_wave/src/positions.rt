@@ -42,7 +42,8 @@ fn mixed(first: i16, second: i16, third: i16) -> i16
     requires first { IsScaledLevel first }
     requires second { IsScaledLevel second }
     requires third { IsScaledLevel third }
-    ensures mixed { (one two three : ℤ) → first ≡ pos 64 *ℤ one → second ≡ pos 64 *ℤ two → third ≡ pos 64 *ℤ three
+    ensures mixed { (one two three : ℤ) → first ≡ pos 64 *ℤ one →
+        second ≡ pos 64 *ℤ two → third ≡ pos 64 *ℤ three
         → result ≡ spec.mixed_voices one two three }
     ensures within { wave_proofs.IsSample result }
 {
@@ -97,8 +98,10 @@ impl Positions {
     #[inline(always)]
     pub(crate) fn next(&mut self, settings: &Settings, steps: &Steps) -> i16
         requires { steps.now ≡ steps_of settings.now.registers }
-        ensures sample { result ≡ spec.sound_sample settings.now.prom settings.now.registers (spec.accumulator self.old) true }
-        ensures accumulators { self.new ≡ spec.accumulators_after settings.now.registers true self.old }
+        ensures sample { result ≡ spec.sound_sample settings.now.prom settings.now.registers
+            (spec.accumulator self.old) true }
+        ensures accumulators { self.new ≡ spec.accumulators_after
+            settings.now.registers true self.old }
         ensures within { wave_proofs.IsSample result }
     {
         let sample = mixed(
@@ -117,7 +120,8 @@ impl Positions {
     #[inline]
     pub(crate) fn fill(&mut self, settings: &Settings, samples: &mut [i16])
         ensures samples { samples.new
-            ≡ sound_samples settings.now.prom settings.now.registers true self.old (length samples.old) }
+            ≡ sound_samples settings.now.prom settings.now.registers true
+            self.old (length samples.old) }
         ensures accumulators { self.new
             ≡ accumulators_after_many settings.now.registers true self.old (length samples.old) }
     {

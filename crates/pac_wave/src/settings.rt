@@ -1,8 +1,10 @@
 //! What the wave PROM and the registers say of the voices, told once for as many samples as they stay the same.
 
-ghost use Rattle.std.specs.Prelude.{◌≡◌, ◌<◌, ◌≤◌, ◌+◌, ◌*◌, ◌/◌, ◌%◌, ℕ, List, true, take, drop, pos, slice_index, slice_index_or};
+ghost use Rattle.std.specs.Prelude.{◌≡◌, ◌<◌, ◌≤◌, ◌+◌, ◌*◌, ◌/◌, ◌%◌, ℕ, List, true, take, drop};
+ghost use Rattle.std.specs.Prelude.{pos, slice_index, slice_index_or};
 ghost use Rattle.std.specs.Int.{w64, to_le_bytes};
-ghost use Rattle.pac_wave.specs.Settings.{AreLevels, AreWithin, IsScaledLevel, scaled_level, scaled_sample, step_of, steps_of};
+ghost use Rattle.pac_wave.specs.Settings.{AreLevels, AreWithin, IsScaledLevel, scaled_level};
+ghost use Rattle.pac_wave.specs.Settings.{scaled_sample, step_of, steps_of};
 ghost use Rattle.pac_wave.specs.Wave as spec;
 
 use crate::Voice;
@@ -58,8 +60,10 @@ fn digits(lowest: u8, registers: &[u8; 32], place: usize) -> u32
     requires lowest { lowest < 16 }
     requires place { place < 29 }
     ensures digits { result ≡
-        lowest + 16 * spec.register_nibble registers.now place + 256 * spec.register_nibble registers.now (place + 1)
-        + 4096 * spec.register_nibble registers.now (place + 2) + 65536 * spec.register_nibble registers.now (place + 3) }
+        lowest + 16 * spec.register_nibble registers.now place + 256 * spec.register_nibble
+        registers.now (place + 1)
+        + 4096 * spec.register_nibble registers.now (place + 2) + 65536 * spec.register_nibble
+        registers.now (place + 3) }
     ensures below { result < spec.accumulator_range }
 {
     u32::from(lowest)
@@ -99,7 +103,8 @@ fn levels(prom: &[u8; 256], start: usize, volume: u8) -> [i16; 32]
     requires start { start ≤ 224 }
     requires volume { volume < 16 }
     ensures levels { (place : ℕ) → place < 32
-        → slice_index_or result place (pos 0) ≡ scaled_sample (slice_index prom.now (start + place) % 16) volume }
+        → slice_index_or result place (pos 0)
+        ≡ scaled_sample (slice_index prom.now (start + place) % 16) volume }
     ensures within { AreWithin result }
 {
     let mut levels = [0; 32];
@@ -257,7 +262,8 @@ impl Settings {
     #[inline(always)]
     pub(crate) fn level(&self, voice: Voice, accumulator: u32) -> i16
         requires { accumulator < spec.accumulator_range }
-        ensures level { result ≡ scaled_level self.now.prom self.now.registers voice (accumulator / 32768) }
+        ensures level { result ≡ scaled_level self.now.prom self.now.registers
+            voice (accumulator / 32768) }
         ensures within { IsScaledLevel result }
     {
         let place = (accumulator / 32768) as usize;
@@ -273,7 +279,8 @@ impl Settings {
     pub(crate) fn grown(&self, voice: Voice, step: u32, position: u32) -> u32
         requires step { step ≡ step_of self.now.registers voice }
         requires whole { position % 4096 ≡ 0 }
-        ensures grown { result / 4096 ≡ spec.grown_accumulator self.now.registers voice (position / 4096) }
+        ensures grown { result / 4096 ≡ spec.grown_accumulator self.now.registers
+            voice (position / 4096) }
         ensures whole { result % 4096 ≡ 0 }
     {
         position.wrapping_add(step)

@@ -1,7 +1,8 @@
 //! Laws of what a history and its view tell.
 #![tactic(auto, using(crate::proofs::TheLaws::history))]
 
-ghost use Rattle.pac_board_model.specs.Laws.{ViewAnswers, ViewTells, StepsAgree, HostsAgree, RunsAgree};
+ghost use Rattle.pac_board_model.specs.Laws.{ViewAnswers, ViewTells, StepsAgree, HostsAgree};
+ghost use Rattle.pac_board_model.specs.Laws.{RunsAgree};
 
 /// The view that a history leaves answers each read as the history does.
 pub fn view_answers()

@@ -1,8 +1,10 @@
 //! Laws of what a run gives out: samples, pictures and their lines.
 #![tactic(auto, using(crate::proofs::TheLaws::outputs))]
 
-ghost use Rattle.pac_board_model.specs.Laws.{OutputsAreOfTheHistory, OutputsAreTimed, FramesHaveTheirSamples, LinesHaveTheirMoments};
-ghost use Rattle.pac_board_model.specs.Laws.{LinesHaveNoOtherMoments, HostsAreLineExact, PicturesAreLineExact};
+ghost use Rattle.pac_board_model.specs.Laws.{OutputsAreOfTheHistory, OutputsAreTimed};
+ghost use Rattle.pac_board_model.specs.Laws.{FramesHaveTheirSamples, LinesHaveTheirMoments};
+ghost use Rattle.pac_board_model.specs.Laws.{LinesHaveNoOtherMoments, HostsAreLineExact};
+ghost use Rattle.pac_board_model.specs.Laws.{PicturesAreLineExact};
 
 /// The outputs of a run are those of its history.
 pub fn outputs_are_of_the_history()

@@ -1,8 +1,10 @@
 //! Laws of plays that are taken up at any moment.
 #![tactic(auto, using(crate::proofs::TheLaws::resumed))]
 
-ghost use Rattle.pac_board_model.specs.Resumed.{RunsBegin, ResumedRunsEnd, RunsAreContinued, PlaysJoin, StoppedRunsStay};
-ghost use Rattle.pac_board_model.specs.Resumed.{ResumedRunsAgree, ResumedOutputsAreOfTheHistory, ResumedRunsAreTimed};
+ghost use Rattle.pac_board_model.specs.Resumed.{RunsBegin, ResumedRunsEnd, RunsAreContinued};
+ghost use Rattle.pac_board_model.specs.Resumed.{PlaysJoin, StoppedRunsStay};
+ghost use Rattle.pac_board_model.specs.Resumed.{ResumedRunsAgree, ResumedOutputsAreOfTheHistory};
+ghost use Rattle.pac_board_model.specs.Resumed.{ResumedRunsAreTimed};
 ghost use Rattle.pac_board_model.specs.Resumed.{ResumedRunsHaveTheirFrames};
 
 /// A run from power-on is that of its play taken up then.

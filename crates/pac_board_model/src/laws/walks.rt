@@ -1,7 +1,8 @@
 //! Laws of steps, walks and runs.
 #![tactic(auto, using(crate::proofs::TheLaws::walks))]
 
-ghost use Rattle.pac_board_model.specs.Laws.{StepsAreTimely, RunsEnd, RunsAreJoined, WalksEnd, WalksJoin, WalksGoOn, WalksAreTimed, RunsGoByFrames};
+ghost use Rattle.pac_board_model.specs.Laws.{StepsAreTimely, RunsEnd, RunsAreJoined, WalksEnd};
+ghost use Rattle.pac_board_model.specs.Laws.{WalksJoin, WalksGoOn, WalksAreTimed, RunsGoByFrames};
 ghost use Rattle.pac_board_model.specs.MemoryLaws.{MemoryDecides};
 
 /// A step that goes on takes 4 to 23 T-states.
