@@ -2,11 +2,10 @@
 use Rattle.pac_board.specs.State.{BoardValue, due_outputs, nothing_due, latest, time_of, most_asked}
 use Rattle.pac_board_model.specs.Step.{Next, Goes, Ends}
 use Rattle.pac_board_model.specs.BoardView.{BoardView}
-use Rattle.std.specs.Prelude.{[], ℕ, ◌-◌, ◌≡◌, Option, None, Some, Result, Ok, Err, ◌<◌, ◌≢◌, ◌≤◌, ◌++◌, ◌⊎◌, ◌+◌, suc}
+use Rattle.std.specs.Prelude.{[], ℕ, ◌-◌, ◌≡◌, Result, Ok, Err, ◌<◌, ◌≢◌, ◌≤◌, ◌++◌, ◌⊎◌, ◌+◌, suc}
 use Rattle.pac_board_model.specs.Output.{Output}
 use Rattle.pac_cpu.specs.declared.once.Once.{Once}
 use Rattle.pac_cpu.specs.declared.once.Once.TheVariants.{Stepped, Stopped}
-use Rattle.pac_cpu.specs.declared.once.Stop.{Stop}
 use Rattle.pac_board.specs.SinksLaws.{Giving, Cut}
 use Rattle.pac_board.specs.Sinks.{TookAll}
 use Rattle.pac_board.specs.declared.fault.Idle.{Idle}
@@ -26,11 +25,6 @@ once_at (Ends stop) time = Stopped stop
 
 abbrev pub once_of_board : BoardValue → Once
 once_of_board board = once_at (next_of board) board.state.now.time
-
--- the stop in an answer
-abbrev pub stop_of_once : Once → Option Stop
-stop_of_once (Stepped ticks kind) = None
-stop_of_once (Stopped stop) = Some stop
 
 -- a board offered what was due, and part of it was refused, which is due still
 pub record IsOfferRefused {S : Type 0} (to : Giving S) (old : BoardValue) (sink : S) (new : BoardValue) (later : S) : Type 0 where
@@ -81,12 +75,6 @@ StepsOnce to old sink (Ok once) new later = IsOneStep to.took old sink once new 
 StepsOnce to old sink (Err TooFar) new later = (latest ≤ old.state.now.time) × IsUnchanged old sink new later
 StepsOnce to old sink (Err Refused) new later =
     (old.state.now.time < latest) × (IsOfferRefused to old sink new later ⊎ IsStepRefused to old sink new later)
-
--- the same, of which the stop alone is answered
-abbrev pub StepsOn : {S : Type 0} → Giving S → BoardValue → S → Result (Option Stop) Fault → BoardValue → S → Type 0
-StepsOn to old sink (Ok stop) new later =
-    IsOneStep to.took old sink (once_of_board old) new later × (stop ≡ stop_of_once (once_of_board old))
-StepsOn to old sink (Err fault) new later = StepsOnce to old sink (Err fault) new later
 
 -- the walk that a call for so many microseconds makes: after so many tries, and to its end
 abbrev pub course_at : BoardValue → ℕ → ℕ → Walk BoardView

@@ -5,8 +5,8 @@ pub mod State
 pub mod StateLaws
 pub mod Boxed
 pub mod Calls
-pub mod CallsProofs
 pub mod CallsLaws
+pub mod CallsProofs
 pub mod Turns
 pub mod TurnsProofs
 pub mod Stretches

@@ -10,7 +10,8 @@ use Rattle.pac_cpu.specs.declared.once.Once.TheVariants.{Stepped, Stopped}
 use Rattle.pac_cpu.specs.declared.once.Stop.{Stop}
 use Rattle.pac_cpu.specs.declared.once.StepKind.{StepKind}
 use Rattle.pac_board.specs.Calls.{board_after_step, next_of, outputs_in}
-use Rattle.pac_board.specs.CallsLaws.{once_of_board, stop_of_once}
+use Rattle.pac_board.specs.CallsLaws.{once_of_board}
+use Rattle.pac_board.specs.CallsProofs.{stop_of_once}
 use Rattle.pac_board.specs.Sinks.{TookAll}
 use Rattle.std.specs.Prelude.{◌≡◌, ◌≤◌, ◌-◌, ◌+◌, ℕ, Option, None, Some, Result, Ok, Err}
 use Rattle.pac_board.specs.SinksLaws.{Giving, Cut}

@@ -4,8 +4,9 @@ ghost use Rattle.std.specs.Prelude.{◌≡◌, ◌<◌, ◌≤◌, ◌+◌, ◌-
 ghost use Rattle.pac_machine.specs.Standing.{latest, nothing_due};
 ghost use Rattle.pac_board.specs.State.{due_outputs};
 ghost use Rattle.pac_board.specs.Calls.{with_due};
-ghost use Rattle.pac_board.specs.CallsLaws.{Offers, IsAdvanced, Advances, StepsOnce, StepsOn};
-ghost use Rattle.pac_board.specs.CallsLaws.{Executes, once_of_board, stop_of_once};
+ghost use Rattle.pac_board.specs.CallsLaws.{Offers, IsAdvanced, Advances, StepsOnce, Executes};
+ghost use Rattle.pac_board.specs.CallsLaws.{once_of_board};
+ghost use Rattle.pac_board.specs.CallsProofs.{StepsOn, stop_of_once};
 ghost use Rattle.pac_board.specs.SinksLaws.{by};
 ghost use Rattle.pac_board.specs.TurnsProofs.{Turns, IsShort, told_once};
 ghost use Rattle.pac_board.specs.Turns.{GoesTo};

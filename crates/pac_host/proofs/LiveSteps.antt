@@ -8,7 +8,8 @@ use Rattle.pac_board_model.specs.Trace.{by_view}
 use Rattle.pac_board_model.specs.Walk.{walk, walk_at_start, walk_after_step}
 use Rattle.pac_board_model.proofs.Walks.{going-steps, open-goes-on}
 use Rattle.pac_board_model.proofs.WalkTimes.{walks-are-timed}
-use Rattle.pac_board.specs.CallsLaws.{StepsOn, IsOfferRefused, IsStepRefused, once_at, stop_of_once}
+use Rattle.pac_board.specs.CallsLaws.{IsOfferRefused, IsStepRefused, once_at}
+use Rattle.pac_board.specs.CallsProofs.{StepsOn, stop_of_once}
 use Rattle.pac_board.specs.Calls.{next_of, outputs_in}
 use Rattle.pac_board.specs.declared.fault.Fault.{Fault}
 use Rattle.pac_board.specs.declared.fault.Fault.TheVariants.{TooFar, Refused}

@@ -25,14 +25,14 @@ AreLevels prom registers voice levels =
     (place : ℕ) → place < 32 → slice_index_or levels place (pos 0) ≡ scaled_level prom registers voice place
 
 -- what 4096 times a voice's accumulator grows by
-abbrev pub step_of : List ℕ → Voice → ℕ
-step_of registers voice = 4096 * frequency registers voice
+abbrev pub voice_step : List ℕ → Voice → ℕ
+voice_step registers voice = 4096 * frequency registers voice
 
 abbrev pub steps_of : List ℕ → Steps
 steps_of registers = record {
-  first = step_of registers First;
-  second = step_of registers Second;
-  third = step_of registers Third;
+  first = voice_step registers First;
+  second = voice_step registers Second;
+  third = voice_step registers Third;
 }
 
 -- from samples and volumes of four bits: from 64 * -8 * 15 to 64 * 7 * 15

@@ -4,7 +4,7 @@ ghost use Rattle.std.specs.Prelude.{◌≡◌, ◌<◌, ◌≤◌, ◌+◌, ◌*
 ghost use Rattle.std.specs.Prelude.{pos, slice_index, slice_index_or};
 ghost use Rattle.std.specs.Int.{w64, to_le_bytes};
 ghost use Rattle.pac_wave.specs.Settings.{AreLevels, AreWithin, IsScaledLevel, scaled_level};
-ghost use Rattle.pac_wave.specs.Settings.{scaled_sample, step_of, steps_of};
+ghost use Rattle.pac_wave.specs.Settings.{scaled_sample, voice_step, steps_of};
 ghost use Rattle.pac_wave.specs.Wave as spec;
 
 use crate::Voice;
@@ -277,7 +277,7 @@ impl Settings {
     /// 4096 times an accumulator, a sample later: so it has all the bits of its word, and no sum needs a mask.
     #[inline(always)]
     pub(crate) fn grown(&self, voice: Voice, step: u32, position: u32) -> u32
-        requires step { step ≡ step_of self.now.registers voice }
+        requires step { step ≡ voice_step self.now.registers voice }
         requires whole { position % 4096 ≡ 0 }
         ensures grown { result / 4096 ≡ spec.grown_accumulator self.now.registers
             voice (position / 4096) }

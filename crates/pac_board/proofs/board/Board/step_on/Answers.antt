@@ -3,7 +3,7 @@ use Rattle.std.proofs.Common.{◌≡◌, rules, inr}
 use Rattle.pac_board.specs.Sinks.{TookAll}
 use Rattle.pac_board.specs.State.{due_outputs, nothing_due}
 use Rattle.pac_board.specs.Calls.{with_due}
-use Rattle.pac_board.proofs.Turns.{step-refused}
+use Rattle.pac_board.proofs.Offered.{step-refused}
 use Rattle.pac_board.proofs.board.Board.step_on.Goals as goal
 
 pub returns-in-Err : goal.returns-in-Err
