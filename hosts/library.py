@@ -195,8 +195,8 @@ def jobs(proof):
 def build(name, kind, file, to, proof, flags=(), swapped="", lay=None, target="", edit=None):
     """Builds a library as a crate of this kind, in a copy of it and of all below it, and takes the file that it leaves.
 
-    The flags are for the compiler, and the script for the bitcode that it gets. What an earlier build of either kind has checked, and nothing has changed since, isn't checked again. Beside
-    the file, with the end .bc, stands the bitcode of which the compiler made it. A crate that is swapped may declare functions of C, and all
+    The flags are for the compiler, and the script for the bitcode that it gets. What an earlier build of either kind has checked, and nothing
+    has changed since, isn't checked again. Beside the file, with the end .bc, stands the bitcode of which the compiler made it. A crate that is swapped may declare functions of C, and all
     crates above it are proved over it there, in the gate by hosts/anew. A target is that of another processor.
     """
     table = crates()
