@@ -21,22 +21,15 @@ static const SDL_Scancode keys[TAPE_INPUTS] = { /* by the bits of a mask */
     SDL_SCANCODE_F10, SDL_SCANCODE_1,   SDL_SCANCODE_2,     SDL_SCANCODE_F11,
 };
 static const uint16_t buttons[SDL_CONTROLLER_BUTTON_MAX] = {
-    [SDL_CONTROLLER_BUTTON_DPAD_UP] = PAC_P1_UP,       [SDL_CONTROLLER_BUTTON_DPAD_LEFT] = PAC_P1_LEFT,
-    [SDL_CONTROLLER_BUTTON_DPAD_RIGHT] = PAC_P1_RIGHT, [SDL_CONTROLLER_BUTTON_DPAD_DOWN] = PAC_P1_DOWN,
-    [SDL_CONTROLLER_BUTTON_BACK] = PAC_COIN1,          [SDL_CONTROLLER_BUTTON_START] = PAC_START1,
-    [SDL_CONTROLLER_BUTTON_Y] = PAC_CREDIT,
+    [SDL_CONTROLLER_BUTTON_DPAD_UP] = PAC_P1_UP, PAC_P1_DOWN, PAC_P1_LEFT, PAC_P1_RIGHT, /* (in this order) */
+    [SDL_CONTROLLER_BUTTON_BACK] = PAC_COIN1, [SDL_CONTROLLER_BUTTON_START] = PAC_START1, [SDL_CONTROLLER_BUTTON_Y] = PAC_CREDIT,
 };
-static const uint16_t sticks[SDL_CONTROLLER_AXIS_MAX][2] = { /* below the middle and above it */
-    [SDL_CONTROLLER_AXIS_LEFTX] = {PAC_P1_LEFT, PAC_P1_RIGHT}, [SDL_CONTROLLER_AXIS_LEFTY] = {PAC_P1_UP, PAC_P1_DOWN},
-};
+static const uint16_t sticks[2][2] = {{PAC_P1_LEFT, PAC_P1_RIGHT}, {PAC_P1_UP, PAC_P1_DOWN}}; /* the left one's X and Y: below the middle, above */
 static const struct option options[] = {
     {"held", 1, NULL, HELD}, {"record", 1, NULL, RECORD}, {"picture", 1, NULL, PICTURE}, {"frames", 1, NULL, FRAMES},
     {"to", 1, NULL, TO},     {"scale", 1, NULL, SCALE},   {"turn", 1, NULL, TURN},       {NULL, 0, NULL, 0},
 };
 static const long most[WORDS] = {[FRAMES] = TAPE_FRAMES, [TO] = 0xFFFF, [SCALE] = 8, [TURN] = 3}; /* of an option that is a number */
-
-static const char usage[] = "usage: player CONTENT [--held FILE] [--frames N] [--to ADDRESS] [--record SCRIPT] [--picture PPM] [--scale N] "
-                            "[--turn N]\n";
 
 static const char *content, *text[WORDS];
 static long number[WORDS] = {[FRAMES] = -1, [TO] = -1, [SCALE] = 2};
@@ -57,11 +50,10 @@ static uint16_t held_now(void)
         return it.held[it.now];
     for (int bit = 0; bit < TAPE_INPUTS; bit++)
         mask |= (unsigned)down[keys[bit]] << bit;
-    for (int at = 0; pad != NULL && at < SDL_CONTROLLER_BUTTON_MAX; at++)
+    for (int at = 0; at < SDL_CONTROLLER_BUTTON_MAX; at++)
         mask |= SDL_GameControllerGetButton(pad, at) ? buttons[at] : 0u;
-    for (int at = 0; pad != NULL && at < SDL_CONTROLLER_AXIS_MAX; at++)
-        if (abs(SDL_GameControllerGetAxis(pad, at)) > DEAD)
-            mask |= sticks[at][SDL_GameControllerGetAxis(pad, at) > 0];
+    for (int at = SDL_CONTROLLER_AXIS_LEFTX, way; at <= SDL_CONTROLLER_AXIS_LEFTY; at++)
+        mask |= abs(way = SDL_GameControllerGetAxis(pad, at)) > DEAD ? sticks[at][way > 0] : 0u;
     return (uint16_t)mask;
 }
 
@@ -98,21 +90,17 @@ static void look_at_source(void)
 static void take_events(void)
 {
     for (SDL_Event event; SDL_PollEvent(&event);) {
-        SDL_Scancode key = event.type == SDL_KEYDOWN ? event.key.keysym.scancode : SDL_SCANCODE_UNKNOWN;
-        if (event.type == SDL_QUIT || key == SDL_SCANCODE_ESCAPE)
-            is_over = true;
-        else if (key == SDL_SCANCODE_P)
-            is_paused = !is_paused;
-        else if (key == SDL_SCANCODE_N)
-            is_paused = true, play_frame();
-        else if (key == SDL_SCANCODE_BACKSPACE)
-            tape_go_to(&it, is_paused ? it.now - 1 : it.now - 2 * TAPE_EACH);
-        else if (key == SDL_SCANCODE_F5)
-            tape_go_to(&it, 0);
-        else if (event.type == SDL_CONTROLLERDEVICEADDED && pad == NULL)
-            pad = SDL_GameControllerOpen(event.cdevice.which);
-        else if (event.type == SDL_CONTROLLERDEVICEREMOVED && pad != NULL)
-            SDL_GameControllerClose(pad), pad = NULL;
+        is_over |= event.type == SDL_QUIT;
+        if (event.type == SDL_CONTROLLERDEVICEADDED)
+            SDL_GameControllerClose(pad), pad = SDL_GameControllerOpen(event.cdevice.which);
+        switch (event.type == SDL_KEYDOWN ? event.key.keysym.scancode : SDL_SCANCODE_UNKNOWN) {
+        case SDL_SCANCODE_ESCAPE: is_over = true; break;
+        case SDL_SCANCODE_P: is_paused = !is_paused; break;
+        case SDL_SCANCODE_N: is_paused = true, play_frame(); break;
+        case SDL_SCANCODE_BACKSPACE: tape_go_to(&it, it.now - (is_paused ? 1 : 2 * TAPE_EACH)); break;
+        case SDL_SCANCODE_F5: tape_go_to(&it, 0); break;
+        default: break;
+        }
     }
 }
 
@@ -160,11 +148,8 @@ static bool read_words(int count, char **word)
 {
     int found;
     for (opterr = 0; (found = getopt_long(count, word, "", options, NULL)) >= 0 && found < WORDS;) {
-        char *end;
-        text[found] = optarg;
-        if (most[found] == 0)
-            continue;
-        number[found] = strtol(optarg, &end, found == TO ? 16 : 10);
+        char *end = optarg + strlen(text[found] = optarg);
+        number[found] = most[found] > 0 ? strtol(optarg, &end, found == TO ? 16 : 10) : 0;
         if (end == optarg || *end != '\0' || number[found] < 0 || number[found] > most[found])
             return false;
     }
@@ -175,7 +160,8 @@ static bool read_words(int count, char **word)
 int main(int count, char **word)
 {
     if (!read_words(count, word))
-        return fputs(usage, stderr), 2;
+        return fputs("usage: player CONTENT [--held FILE] [--frames N] [--to ADDRESS] [--record SCRIPT] [--picture PPM] [--scale N] "
+                     "[--turn N]\n", stderr), 2;
     const char *wrong = text[HELD] != NULL && !tape_read(&it, text[HELD]) ? "what is held can't be read" : tape_load(&it, content);
     if (wrong != NULL)
         return fprintf(stderr, "player: %s: %s\n", content, wrong), 4;
