@@ -31,7 +31,7 @@ import pacboard
 import rows
 from server import command
 
-OUT, SERVER = ROOT / "hosts/out", ROOT / "hosts/gdb/server.py"
+OUT, SERVER, FRAMES = ROOT / "hosts/out", ROOT / "hosts/gdb/server.py", ROOT / "hosts/gdb/frames.py"
 STEPS, STOPS, BACK = 3000, 40, 200
 FEW_KEPT, VECTORS, HELD_AT = 8, 0x100, 3218  # kept moments, where starfall has the address of its interrupt, and where a block has what is held
 MACHINE_AT, I386, ASKED = 18, 3, 60  # where an ELF file has its processor, a processor that each gdb knows, and of how many lines it is asked
@@ -335,6 +335,11 @@ def session(gdb: str, room: pathlib.Path, commands: list[str]) -> list[str]:
     return end.stdout.split("\n@")[-len(commands) :] if end.returncode == 0 else []
 
 
+def calls_of(listing: pathlib.Path, routine: int) -> list[int]:
+    """Where a program goes on after its calls of a routine."""
+    return [int(at, 16) + 3 for at, low, high in re.findall(r"^.{5} ([0-9A-F]{4}) CD(..)(..) ", listing.read_text(), re.M) if int(high + low, 16) == routine]
+
+
 def try_itself(room: pathlib.Path, listing: pathlib.Path) -> None:
     """Debugs by gdb itself, where one is here that knows z80."""
     gdb, line = gdb_of_z80(), {at: number for number, at in lines_of(listing).items()}
@@ -349,11 +354,15 @@ def try_itself(room: pathlib.Path, listing: pathlib.Path) -> None:
     values = [re.findall(r"value = (\d+) ", found[at]) for at in (8, 9)]
     row("past a write, and back to before it", len(values[0]) == 2 and values[0] == values[1][::-1] and values[0][0] != values[0][1], str(found[8:10]))
     row("past a read", re.search(r"^Value = \d+ ", found[12], re.M) and f"starfall.asm:{line[int(COPY, 16)]}\n" in found[12], found[12])
-    found = session(gdb, room, [f"break *{CALLED}", "continue", "stepi", "p/x $pc", "reverse-stepi", "p/x $pc", "backtrace 1"])
+    found = session(gdb, room, [f"source {FRAMES}", f"break *{CALLED}", "continue", "stepi", "p/x $pc", "reverse-stepi", "p/x $pc", "backtrace", "set $bc = 0x1234", "p/x $bc", "delete", "finish", "p/x $pc", "nexti", "p/x $pc"])
     if not found:
         print(f"LEFT OUT: single steps by {gdb}, which aborts at one", file=sys.stderr, flush=True)
         return
-    row("a step, and back", found[3].endswith(f" = {int(CALLED, 16) + 3:#x}\n") and found[5].endswith(f" = {CALLED}\n"), str(found))
+    after, number = calls_of(listing, int(CALLED, 16)), lambda at: int(found[at].partition(" = ")[2].split()[0], 16)
+    row("a step, and back", (number(4), number(6)) == (int(CALLED, 16) + 3, int(CALLED, 16)), str(found))
+    row("who called the routine", [int(at, 16) for at in re.findall(r"^#1 +(0x[0-9a-f]+) ", found[7], re.M)] == after, found[7])
+    row("a register is written", number(9) == 0x1234, str(found[8:10]))
+    row("to the end of the routine, and past the next call", (number(12), number(14)) == (after[0], after[0] + 3), str(found[10:]))
 
 
 def main(words: list[str]) -> int:
