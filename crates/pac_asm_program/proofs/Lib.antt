@@ -1,3 +1,4 @@
 mod Seen
 mod WrittenOver
 mod Apart
+mod Hashed
