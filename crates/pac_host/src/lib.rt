@@ -1,5 +1,5 @@
 //! The board behind a C interface: a host keeps a board's state as a block of its own memory, and hands that block, its ROMs and
-//! its buffers in with each call. Nothing else is kept, and no memory is taken.
+//! its buffers in with each call. Nothing else is kept, and no memory is taken. The calls' work is that of `pac_block` and `pac_live`.
 #![tactic(auto)]
 
 ghost use Rattle.std.specs.Prelude.{◌≡◌};
@@ -7,32 +7,21 @@ ghost use Rattle.pac_board.specs.State.{board_after_reset};
 ghost use Rattle.pac_state.specs.Saved.{file_size};
 ghost use Rattle.pac_block.specs.Codes.{Answers};
 ghost use Rattle.pac_block.specs.Host as host;
-ghost use Rattle.pac_host.specs.Live as live_specs;
-ghost use Rattle.pac_host.specs.LiveFiles as live_files_specs;
-ghost use Rattle.pac_host.specs.LiveLines as live_lines_specs;
-ghost use Rattle.pac_host.specs.LiveLook as live_look_specs;
-ghost use Rattle.pac_host.specs.LiveMemory.{live_size};
-ghost use Rattle.pac_host.specs.LiveStep as live_step_specs;
-ghost use Rattle.pac_host.specs.LiveTime as live_time_specs;
-ghost use Rattle.pac_host.specs.LiveUntil as live_until_specs;
+ghost use Rattle.pac_live.specs.Live as live_specs;
+ghost use Rattle.pac_live.specs.LiveFiles as live_files_specs;
+ghost use Rattle.pac_live.specs.LiveLines as live_lines_specs;
+ghost use Rattle.pac_live.specs.LiveLook as live_look_specs;
+ghost use Rattle.pac_live.specs.LiveMemory.{live_size};
+ghost use Rattle.pac_live.specs.LiveStep as live_step_specs;
+ghost use Rattle.pac_live.specs.LiveTime as live_time_specs;
+ghost use Rattle.pac_live.specs.LiveUntil as live_until_specs;
 
-pub mod laws;
-mod live;
-mod live_calls;
-mod live_files;
-mod live_lines;
-mod live_look;
-mod live_step;
-mod live_time;
-mod live_until;
-
-pub use live::PacLive;
-pub use live_look::PacRegisters;
-pub use live_until::{Ended, PacUntil};
 use pac_block::codes::code;
 use pac_block::{calls, draw, files, peek};
 pub use pac_block::{HostFault, PacBoard, PacRan, RanBytes};
 use pac_board::{Flags, Inputs};
+pub use pac_live::{Ended, PacLive, PacRegisters, PacUntil};
+use pac_live::{live_calls, live_files, live_lines, live_look, live_step, live_time, live_until};
 
 /// The bytes of a board's block: a host that knows another size was made for another library.
 #[unsafe(no_mangle)]

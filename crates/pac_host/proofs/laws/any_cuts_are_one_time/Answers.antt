@@ -1,5 +1,0 @@
-use Rattle.pac_host.proofs.Cuts.{any-cuts-are-one-time}
-use Rattle.pac_host.proofs.laws.any_cuts_are_one_time.Goals as goal
-
-pub returns : goal.returns
-returns c = any-cuts-are-one-time c.time_can_be_cut.ensures

@@ -1,9 +1,0 @@
--- The addresses of the set.
-use Rattle.std.proofs.Common.{◌≡◌, ◌==◌, not, ℕ, List, length, take_all, slice_index, inr, ap, ◌∙◌, arith}
-use Rattle.pac_host.proofs.live_until.stops_of.Goals as goal
-
-pub returns : goal.returns
-returns c =
-    let long : length c.args.places.now ≡ 65536 = omega arith in
-    let whole = c.chunk.ensures ∙ take_all 65536 c.args.places.now (omega (arith, long)) in
-    (inr long, λ address. rw c.at.ensures (ap (λ (places : List ℕ). not (slice_index places address == 0)) whole))

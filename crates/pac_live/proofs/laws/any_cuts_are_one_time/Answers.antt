@@ -1,0 +1,5 @@
+use Rattle.pac_live.proofs.Cuts.{any-cuts-are-one-time}
+use Rattle.pac_live.proofs.laws.any_cuts_are_one_time.Goals as goal
+
+pub returns : goal.returns
+returns c = any-cuts-are-one-time c.time_can_be_cut.ensures

@@ -1,0 +1,12 @@
+-- A handle that isn't open stays.
+use Rattle.std.proofs.Common.{ap, refl, arith}
+use Rattle.pac_live.specs.declared.live.PacLive.{PacLive}
+use Rattle.pac_live.proofs.live_calls.make_closed.Goals as goal
+
+pub returns-else-seal-eq-SEAL : goal.returns-else-seal-eq-SEAL
+returns-else-seal-eq-SEAL c =
+    let value = c.seal.ensures.0 in
+    let same = c.seal.ensures.1 in
+    let kept = ap (λ (live : PacLive). live.seal) same in
+    let other = c.if-seal-eq-SEAL.false in
+    record { closed = λ equal. omega (arith, value, kept, other, equal); handle = rw same refl }

@@ -1,0 +1,32 @@
+-- The map, if bytes of one are handed in.
+use Rattle.std.proofs.Common.{◌≡◌, ◌≢◌, ◌∙◌, List, ℕ, Option, Some, length, take_all, ap, subst, sym, arith}
+use Rattle.std.proofs.lemmas.Bool.Decides.{nat_tests}
+use Rattle.pac_board.specs.Stops.{is_stop}
+use Rattle.pac_live.specs.LiveUntil.{IsGoneOn}
+use Rattle.pac_live.proofs.UntilAsked.{no-map, some-map}
+use Rattle.pac_live.proofs.live_until.go_by.Goals as goal
+
+pub chunk-requires : goal.chunk-requires
+chunk-requires c =
+    let tested = sym c.is_empty.ensures ∙ c.if-is_empty.false in
+    let some : length c.args.watched.now ≢ 0 = grind (arith, nat_tests) in
+    let long = (some-map c.args.watched.now c.requires.map some).0 in
+    omega (arith, long)
+
+pub returns-then-is_empty : goal.returns-then-is_empty
+returns-then-is_empty c =
+    let tested = sym c.is_empty.ensures ∙ c.if-is_empty.true in
+    let none : length c.args.watched.now ≡ 0 = grind (arith, nat_tests) in
+    subst (λ (marks : Option (List ℕ)). IsGoneOn (is_stop c.args.stops.now) marks c.args.limit c.args.board.now c.args.samples.now
+    c.go_told.new.board c.go_told.new.samples c.go_told.result) (sym (no-map c.args.watched.now none)) c.go_told.ensures
+
+pub returns : goal.returns
+returns c =
+    let tested = sym c.is_empty.ensures ∙ c.if-is_empty.false in
+    let some : length c.args.watched.now ≢ 0 = grind (arith, nat_tests) in
+    let map = some-map c.args.watched.now c.requires.map some in
+    let long = map.0 in
+    let whole = c.chunk.ensures ∙ take_all 65536 c.args.watched.now (omega (arith, long)) in
+    subst (λ (marks : Option (List ℕ)). IsGoneOn (is_stop c.args.stops.now) marks c.args.limit c.args.board.now c.args.samples.now
+    c.go_told-2.new.board c.go_told-2.new.samples c.go_told-2.result) (ap Some (c.new-watch.ensures.marks ∙ whole) ∙ sym map.1)
+    c.go_told-2.ensures

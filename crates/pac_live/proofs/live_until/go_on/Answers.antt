@@ -1,0 +1,43 @@
+-- What was due is given first.
+use Rattle.std.proofs.Common.{◌≡◌, ◌≢◌, ◌<◌, ◌^◌, false, [], ap, ◌∙◌, sym, rules}
+use Rattle.pac_board.specs.Calls.{with_due}
+use Rattle.pac_board.specs.CallsLaws.{IsOfferRefused}
+use Rattle.pac_board.specs.Sinks.{TookAll}
+use Rattle.pac_board.specs.SinksLaws.{by}
+use Rattle.pac_board.specs.State.{BoardState, BoardValue, due_outputs, nothing_due}
+use Rattle.pac_board.specs.Stops.{is_stop}
+use Rattle.pac_block.specs.Sounding.{sounding_took, sounding_refused}
+use Rattle.pac_live.proofs.UntilAsked.{due-elsewhere, due-there, something_due}
+use Rattle.pac_live.proofs.UntilEnds.{at-once, offer-full, went-on}
+use Rattle.pac_live.proofs.live_until.go_on.Goals as goal
+
+pub returns-then-is_err : goal.returns-then-is_err
+returns-then-is_err g c =
+    let old = c.args.board.now in
+    let bound : old.made < 2 ^ 64 = search rules in
+    let offer : IsOfferRefused (by sounding_took sounding_refused) old c.args.sounds.now c.offer.new.self c.offer.new.sink = search rules in
+    offer-full c.args.stops.now (g.W.Watch.marks c.args.watch.now) c.args.limit old c.args.sounds.now c.requires.taken c.requires.pictures
+    c.requires.unmet bound offer
+
+pub returns-then-ends_at_once : goal.returns-then-ends_at_once
+returns-then-ends_at_once g c =
+    let old = c.args.board.now in
+    let bound : old.made < 2 ^ 64 = search rules in
+    let same : c.offer.new.self ≡ with_due old nothing_due = search rules in
+    let taken : TookAll sounding_took c.args.sounds.now (due_outputs old) c.offer.new.sink = search rules in
+    let is_due = c.is_some-is_due.ensures ∙ ap (λ (state : BoardState). something_due (record old { state = state })) c.fields.ensures.fields in
+    let there = due-there old c.is_some-is_due.result _ is_due (sym c.ends_at_once.ensures ∙ c.if-ends_at_once.true) in
+    at-once c.args.stops.now (g.W.Watch.marks c.args.watch.now) c.args.limit old c.args.sounds.now c.requires.taken c.requires.pictures
+    c.requires.unmet bound c.requires.later same taken there.0 there.1
+
+pub returns : goal.returns
+returns g c =
+    let old = c.args.board.now in
+    let same : c.offer.new.self ≡ with_due old nothing_due = search rules in
+    let taken : TookAll sounding_took c.args.sounds.now (due_outputs old) c.offer.new.sink = search rules in
+    let is_due = c.is_some-is_due.ensures ∙ ap (λ (state : BoardState). something_due (record old { state = state })) c.fields.ensures.fields in
+    let stands = ap (λ (board : BoardValue). is_stop c.args.stops.now board.state.now.regs.pc) same in
+    let first : due_outputs old ≢ [] → is_stop c.args.stops.now old.state.now.regs.pc ≡ false = λ some.
+    sym stands ∙ due-elsewhere old c.is_some-is_due.result _ is_due (sym c.ends_at_once.ensures ∙ c.if-ends_at_once.false) some in
+    went-on c.args.stops.now (g.W.Watch.marks c.args.watch.now) c.args.limit old c.args.sounds.now c.requires.taken c.requires.pictures same
+    taken first c.walk_on.ensures
