@@ -44,10 +44,10 @@ def library_tools(shared: pathlib.Path, environment: dict[str, str] | None = Non
     return {name: Job([sys.executable, CHECKS / name, *words], held_by) for name, words in tools.items()}
 
 
-def c_hosts(room: pathlib.Path, compiler: Words, linked: Words) -> dict[str, Job]:
-    """The hosts in C, compiled over one build of the library into a folder; live.c makes fewer calls than tools/check/hosts has it make."""
+def c_hosts(room: pathlib.Path, compiler: Words, linked: Words, is_short: bool = True) -> dict[str, Job]:
+    """The hosts in C, compiled over one build of the library into a folder; where it's short, live.c makes fewer calls than elsewhere."""
     for name in ("calls", "hostile", "live", "film"):
-        how: Words = ["-std=c11", "-O1", "-g", "-pthread", "-I", HOSTS, *[FEWER] * (name == "live")]
+        how: Words = ["-std=c11", "-O1", "-g", "-pthread", "-I", HOSTS, *[FEWER] * (is_short and name == "live")]
         bitcode.run(*compiler, *how, HOSTS / f"c/{name}.c", *linked, "-o", room / name)
     roms, held = OUT / "starfall.roms", OUT / "starfall.held"
     film: Words = [room / "film", roms, held, room / "frames", room / "wave"]
