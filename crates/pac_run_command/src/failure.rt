@@ -1,6 +1,6 @@
 //! What keeps the program from its work: the line that tells it, and the exit status.
 
-ghost use Rattle.std.specs.Prelude.{◌≡◌, ◌≤◌, Some};
+ghost use Rattle.std.specs.Prelude.{◌≡◌, ◌≤◌, ◌++◌, Some, IfSome, codes};
 ghost use Rattle.std.specs.Fmt.{WritesOnOk};
 ghost use Rattle.pac_run_command.specs.Failures as told;
 ghost use Rattle.pac_run_command.specs.FailuresProofs as failures_proofs;
@@ -64,6 +64,14 @@ fn put_read_fault<W: fmt::Write>(f: &mut fmt::Formatter<W>, name: &str) -> fmt::
     write!(f, "read fault {}", Told { name })
 }
 
+/// Writes that an input is refused, and its fault.
+fn put_refusal<W: fmt::Write, T: fmt::Display>(f: &mut fmt::Formatter<W>, fault: &T) -> fmt::Result
+    ensures { IfSome (T.output fault.now) (λ text. WritesOnOk W.write_str_gives f.old result
+        (codes "refused " ++ text) f.new) }
+{
+    write!(f, "refused {fault}")
+}
+
 impl fmt::Display for Failure<'_> {
     ghost use Rattle.pac_run_command.specs.Failures.{message};
 
@@ -73,10 +81,10 @@ impl fmt::Display for Failure<'_> {
     fn fmt<W: fmt::Write>(&self, f: &mut fmt::Formatter<W>) -> fmt::Result {
         match self {
             Failure::Read(name) => put_read_fault(f, name),
-            Failure::Source(fault) => write!(f, "refused {fault}"),
-            Failure::Set(fault) => write!(f, "refused {fault}"),
-            Failure::Script(fault) => write!(f, "refused {fault}"),
-            Failure::State(fault) => write!(f, "refused {fault}"),
+            Failure::Source(fault) => put_refusal(f, fault),
+            Failure::Set(fault) => put_refusal(f, fault),
+            Failure::Script(fault) => put_refusal(f, fault),
+            Failure::State(fault) => put_refusal(f, fault),
             Failure::Extent => f.write_str("refused X1"),
             Failure::Write(output, count) => {
                 write!(f, "write fault {output} after {count} bytes")
