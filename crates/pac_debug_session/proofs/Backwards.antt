@@ -1,16 +1,12 @@
 -- The way back, over plain values: a checkpoint is found by its place, and steps are done again.
 use Rattle.std.proofs.lemmas.Grind.{common_steps}
-use Rattle.std.proofs.Common.{◌≡◌, ℕ, zero, suc, ◌+◌, ◌-◌, ◌*◌, ◌<◌, ◌≤◌, Option, Some, List, [], ◌∷◌, slice_get, rules, arith}
-use Rattle.pac_board_course.specs.Stop.{Stop}
-use Rattle.pac_board_course.specs.State.{nothing_due}
+use Rattle.std.proofs.Common.{◌≡◌, ℕ, zero, suc, ◌+◌, ◌-◌, ◌*◌, ◌<◌, ◌≤◌, Some, List, [], ◌∷◌, slice_get, rules, arith}
 use Rattle.pac_debug_session.specs.declared.kept.SessionSnapshot.{SessionSnapshot}
 use Rattle.pac_debug_session.specs.Keeping.{IsKeptAt, AreCheckpoints}
 use Rattle.pac_debug_session.specs.Motions.{checkpoint_steps, checkpoint_count}
 use Rattle.pac_debug_session.specs.MotionsProofs.{replayed_to}
 use Rattle.pac_debug_session.specs.Running.{Setting}
 use Rattle.pac_debug_session.specs.Session.{SessionValue}
-use Rattle.pac_debug_session.specs.SessionLaws.{IsSession}
-use Rattle.pac_debug_session.specs.Strides.{IsLeapt}
 
 -- ---- the checkpoint of a place
 
@@ -29,9 +25,3 @@ pub record IsAgain (old s new : SessionValue) (most : ℕ) : Type 0 where
   pub session : new ≡ replayed_to old new.index
   pub later : s.index < new.index
   pub near : new.index ≤ s.index + most
-
-module _ (old s new : SessionValue) (heeded : List ℕ) (most : ℕ) (facts : IsSession old) (session : s ≡ replayed_to old s.index)
-    (after : old.index ≤ s.index) (seen : s.index + most ≤ old.furthest) (nothing : old.due ≡ nothing_due) where
-  -- a leap from before the furthest index does a step at least
-  pub replayed-on : (stop : Option Stop) → 1 ≤ most → IsLeapt s heeded most stop new → IsAgain old s new most
-  replayed-on stop some leapt = search rules

@@ -1,5 +1,7 @@
 -- A session at the beginning of its run.
-use Rattle.std.proofs.Common.{rules, ◌≡◌, ℕ, zero, suc, ◌+◌, ◌≤◌, List, [], ◌∷◌, length, map, replicate, None, refl, sym, ap, ◌∙◌, arith}
+use Rattle.std.proofs.Common.{rules, ◌≡◌, ℕ, zero, suc, ◌+◌, ◌≤◌, false, List, [], ◌∷◌, ◌++◌, length, map, replicate, None, refl, sym, ap, ◌∙◌}
+use Rattle.std.proofs.Common.{arith}
+use Rattle.std.proofs.lemmas.List.{length-append}
 use Rattle.pac_board_course.specs.Stretches.{held}
 use Rattle.pac_board_course.specs.Stretch.{Stretch}
 use Rattle.pac_board_course.proofs.Walks.{not-both}
@@ -39,6 +41,13 @@ none-seen furthest (suc count) = (tt, none-seen furthest count)
 pub four-marks : (slots : List SlotContents) → length slots ≡ slot_count → AreEmpty slots
     → map mark_of slots ≡ None ∷ None ∷ None ∷ None ∷ []
 four-marks slots count empty = no-marks slots empty ∙ ap (λ n. replicate n None) count
+
+-- one more empty slot
+pub one-more : (slots : List SlotContents) (slot : SlotContents) → AreEmpty slots → slot.filled ≡ false → AreEmpty (slots ++ slot ∷ [])
+one-more [] slot all one = (one, tt)
+one-more (first ∷ more) slot all one = (all.0, one-more more slot all.1 one)
+
+pub ruleset empty_slots = (length-append, one-more)
 
 pub right-empty : (setting : Setting) (slots : List SlotContents) → length slots ≡ slot_count → AreEmpty slots →
     AreSlotsRight setting 0 slots

@@ -1,7 +1,6 @@
 -- A run at its indices: where it goes on, each index is one step, and each step takes its time.
 use Rattle.std.proofs.Common.{◌≡◌, ℕ, zero, suc, ◌<◌, Bool, true, false, ◌&&◌, not, is_none, None, rules}
 use Rattle.std.proofs.Common.{List, ◌++◌, length, drop, refl, ap, ◌∙◌, arith}
-use Rattle.std.proofs.lemmas.Bool.Decides.{nat_tests}
 use Rattle.std.proofs.Math.Seq.{drop-append_seam}
 use Rattle.pac_board_course.specs.StepKind.{StepKind}
 use Rattle.pac_board_course.specs.Stretches.{held}
@@ -12,7 +11,7 @@ use Rattle.pac_board_course.specs.Step.{Moment, Next, Goes}
 use Rattle.pac_board_course.specs.Trace.{by_view}
 use Rattle.pac_board_course.specs.Walk.{walk_after_step}
 use Rattle.pac_board_course.proofs.Walks.{play-timely}
-use Rattle.pac_debug_session.specs.Running.{Setting, run, now_at, next_from, next_at, limit, is_late, stop_at, goes_at, outputs_between}
+use Rattle.pac_debug_session.specs.Running.{Setting, run, now_at, next_from, next_at, is_late, stop_at, goes_at, outputs_between}
 
 -- ---- tests
 
@@ -38,9 +37,6 @@ module _ (setting : Setting) where
 
   pub goes-on : (index : ℕ) → goes_at setting index ≡ true → IsGoing (next_at setting index)
   goes-on index goes = search rules
-
-  pub early-time : (index : ℕ) → is_late setting index ≡ false → (now_at setting index).time < limit setting
-  early-time index early = grind (arith, nat_tests)
 
   -- where it met no stop so far and isn't over, the next index is the next step
   pub next-index : (index : ℕ) → (run setting index).stop ≡ None → is_late setting index ≡ false

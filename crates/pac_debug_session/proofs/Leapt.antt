@@ -1,5 +1,5 @@
 -- Steps of a session in one go, by what the course's call answered: what stands before them stands after them.
-use Rattle.std.proofs.Common.{◌≡◌, ℕ, zero, suc, ◌+◌, ◌-◌, ◌*◌, ◌/◌, ◌%◌, ◌==◌, ◌<◌, ◌≤◌, true, min, max, nat_lt, rules}
+use Rattle.std.proofs.Common.{◌≡◌, ℕ, zero, suc, ◌+◌, ◌-◌, ◌/◌, ◌%◌, ◌==◌, ◌<◌, ◌≤◌, true, min, max, nat_lt, rules}
 use Rattle.std.proofs.Common.{if◌then◌else◌, Option, None, Some, Result, Ok, Err, List, refl, sym, ap, subst, ◌∙◌, arith}
 use Rattle.std.specs.List.{list_any}
 use Rattle.std.proofs.lemmas.Bool.{cases_lt}
@@ -28,7 +28,7 @@ use Rattle.pac_debug_session.specs.Past.{told_at}
 use Rattle.pac_debug_session.specs.Playing.{course_of}
 use Rattle.pac_debug_session.specs.Running.{now_at, goes_at, outputs_between}
 use Rattle.pac_debug_session.specs.Session.{SessionValue}
-use Rattle.pac_debug_session.specs.Strides.{MeetNothing, IsLeap, LeapEnds, HasLeapt, IsLeapRefused, Leaps, stop_unless}
+use Rattle.pac_debug_session.specs.Strides.{MeetNothing, IsLeap, LeapEnds, HasLeapt, IsLeapRefused, Leaps, leap_limit, stop_unless}
 use Rattle.pac_debug_session.proofs.Ends.{goes-if-counted}
 use Rattle.pac_debug_session.proofs.Indices.{IsOpen, open-up-to}
 use Rattle.pac_debug_session.proofs.PlayedOn.{run-walked, given-walked, steps-same}
@@ -123,8 +123,8 @@ module _ (old : SessionValue) (within : old.index ≤ old.furthest)
       frame-at : (n : ℕ) → n < tries → (now_at old.setting (old.index + n)).time / frame_ticks ≡ (from old).time / frame_ticks
       frame-at n less = omega (arith, (reached-here n (omega arith)).time, begun-at n less)
 
-      few-steps : (fits : ℕ) → limit ≡ (from old).time + 4 * fits → tries ≤ fits
-      few-steps fits limit_is = grind (arith, begun-at (tries - 1), reached-here (tries - 1))
+      few-steps : (most : ℕ) → limit ≡ leap_limit old most → tries ≤ min most (checkpoint_steps - old.index % checkpoint_steps)
+      few-steps most limit_is = grind (arith, begun-at (tries - 1), reached-here (tries - 1))
 
       nothing-met : (heeded : List ℕ) → AreStops stops heeded → MeetNothing old.setting heeded old.index new.state.now.steps
       nothing-met heeded are =
@@ -160,21 +160,16 @@ module _ (old : SessionValue) (within : old.index ≤ old.furthest)
       pub asked-then : new.state.asked ≡ 0
       asked-then = ap (λ (b : BoardValue). b.state.asked) stands.board_is
 
-      module _ (most fits : ℕ) (limit_is : limit ≡ (from old).time + 4 * fits)
-          (fits_is : fits ≡ min most (checkpoint_steps - old.index % checkpoint_steps)) where
+      module _ (most : ℕ) (limit_is : limit ≡ leap_limit old most) where
         pub stands-then : (ring : Ring) → IsLeft old.setting old.index old.furthest ring
             → IsStanding (session_on old new).setting new.state.now told (session_on old new).furthest ring
         stands-then ring left =
-            let less = few-steps fits limit_is in
+            let less = few-steps most limit_is in
             subst (λ set. IsStanding (record old.setting { set = set }) new.state.now told (max old.furthest new.state.now.steps) ring)
             (sym (ap (λ (b : BoardValue). b.set) stands.board_is)) (grind (arith, cases_lt, goes-all, stands, told-there))
 
         leap-of : (heeded : List ℕ) → AreStops stops heeded → IsLeap old heeded most new.state.now.steps
-        leap-of heeded are = record {
-          after = omega (arith, stands.steps);
-          few = omega (arith, stands.steps, few-steps fits limit_is);
-          unmet = nothing-met heeded are;
-        }
+        leap-of heeded are = search (rules, arith, few-steps, nothing-met, stands)
 
         ends-so : (found : Option Stop) → HasEndedBy (course_of old) found (course_on old new)
             → LeapEnds old (if nat_lt old.index new.state.now.steps then None else found) new.state.now.steps
@@ -182,24 +177,19 @@ module _ (old : SessionValue) (within : old.index ≤ old.furthest)
 
     -- ---- by the answer
 
-    module _ (most fits : ℕ) (limit_is : limit ≡ (from old).time + 4 * fits)
-        (fits_is : fits ≡ min most (checkpoint_steps - old.index % checkpoint_steps)) (heeded : List ℕ) (are : AreStops stops heeded) where
+    module _ (most : ℕ) (limit_is : limit ≡ leap_limit old most) (heeded : List ℕ) (are : AreStops stops heeded) where
       leapt-so : {E : Type 0} (found : Option Stop) → Gone {E = E} old to sink later limit stops new told (Ok found)
           → HasLeapt to.took old heeded most old.index new.state.now.steps sink
           (if nat_lt old.index new.state.now.steps then None else found) (session_on old new) later
       leapt-so {E} found gone =
           let all : new.state.now.steps ≡ old.index + gone.made.played.steps = omega (arith, opened.steps) in
-          record {
-            leapt = record {
-              leap = leap-of (Ok found) gone most fits limit_is fits_is heeded are;
-              ending = ends-so (Ok found) gone most fits limit_is fits_is found gone.made.ending;
-              session = grind (arith, value-there);
-            };
-            sink_is =
-                subst (λ xs. TookAll to.took sink xs later)
-                (sym (ap (outputs_between old.setting old.index) all ∙ given-walked old opened gone.made.played.steps))
-                gone.made.played.sink_is;
-          }
+          let leap_is = leap-of (Ok found) gone most limit_is heeded are in
+          let ending_is = ends-so (Ok found) gone most limit_is found gone.made.ending in
+          let sink_is_is =
+          subst (λ xs. TookAll to.took sink xs later)
+          (sym (ap (outputs_between old.setting old.index) all ∙ given-walked old opened gone.made.played.steps))
+          gone.made.played.sink_is in
+          grind (arith, ends-so, given-walked, leap-of, value-there)
 
       leap-refused : {E : Type 0} (refusal : E) → Gone old to sink later limit stops new told (Err refusal)
           → IsLeapRefused to old heeded most sink (session_on old new) later
@@ -213,7 +203,7 @@ module _ (old : SessionValue) (within : old.index ≤ old.furthest)
                 last = old.index + last;
                 index = omega (arith, opened.steps);
                 after = omega (arith, opened.steps);
-                leap = leap-of (Err refusal) gone most fits limit_is fits_is heeded are;
+                leap = leap-of (Err refusal) gone most limit_is heeded are;
                 session = value-there (Err refusal) gone;
                 cut =
                     cut-along (ap (outputs_between old.setting old.index) all ∙ given-walked old opened gone.made.steps)

@@ -1,8 +1,7 @@
 -- The ring of checkpoints: it is full before one is taken and after, and it is filled one by one.
 use Rattle.std.proofs.lemmas.Grind.{common_steps}
-use Rattle.std.proofs.Common.{◌≡◌, ℕ, ◌+◌, ◌-◌, ◌<◌, ◌≤◌, List, [], ◌∷◌, ◌++◌, length, drop, None, is_some}
-use Rattle.std.proofs.Common.{ap, true≢false, arith, length-append}
-use Rattle.std.specs.Prelude.{slice_get}
+use Rattle.std.proofs.Common.{◌≡◌, ℕ, ◌+◌, ◌-◌, ◌<◌, ◌≤◌, List, [], ◌∷◌, ◌++◌, length, drop}
+use Rattle.std.proofs.Common.{ap, arith, length-append}
 use Rattle.std.proofs.lemmas.List.{length-drop}
 use Rattle.circular_buffer.specs.Buffer.{keep_last}
 use Rattle.pac_debug_session.specs.declared.kept.SessionSnapshot.{SessionSnapshot}
@@ -19,11 +18,6 @@ one-for-one kept one capacity count room =
 -- and they are as many as before
 pub as-many : (kept : List SessionSnapshot) (one : SessionSnapshot) → length kept ≡ 16 → length (drop 1 kept ++ one ∷ []) ≡ 16
 as-many kept one count = omega (arith, length-drop 1 kept, length-append (drop 1 kept) (one ∷ []))
-
--- a full one has a first
-pub has-first : (kept : List SessionSnapshot) → length kept ≡ 16 → slice_get kept 0 ≡ None → ⊥
-has-first [] count none = absurd (omega arith)
-has-first (one ∷ more) count none = true≢false (ap is_some none)
 
 -- one more in one that isn't full
 pub one-more-kept : (kept : List SessionSnapshot) (one : SessionSnapshot) (capacity count : ℕ) → length kept ≡ count → count < 16 →

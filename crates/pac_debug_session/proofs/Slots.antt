@@ -1,7 +1,7 @@
 -- What slots and checkpoints keep, and a session that goes to it.
 use Rattle.std.proofs.Common.{◌≡◌, ℕ, zero, suc, ◌<◌, ◌≤◌, true, List, [], ◌∷◌, length, map, set, get_or, Option, None, Some, rules}
 use Rattle.std.proofs.Common.{sym, ap, subst, ◌∙◌, arith}
-use Rattle.std.proofs.lemmas.List.{map-set, length-set}
+use Rattle.std.proofs.lemmas.List.{get_or-map, map-set, length-set}
 use Rattle.pac_board_course.specs.Stretch.{Stretch}
 use Rattle.pac_board_course.specs.BoardView.{BoardView}
 use Rattle.pac_board_course.specs.Step.{Moment}
@@ -53,9 +53,7 @@ module _ (setting : Setting) (furthest : ℕ) where
 
   pub mark-at : (slots : List SlotContents) (place : ℕ) (slot : SlotContents) → place < length slots → slot ≡ get_or slots place slot
       → get_or (map mark_of slots) place None ≡ mark_of slot
-  mark-at [] place slot less is = absurd (omega arith)
-  mark-at (first ∷ more) zero slot less is = ap mark_of (sym is)
-  mark-at (first ∷ more) (suc place) slot less is = mark-at more place slot (omega arith) is
+  mark-at slots place slot less is = get_or-map mark_of slots place slot None less ∙ ap mark_of (sym is)
 
   -- what a filled slot keeps was seen
   pub record IsFilled (slot : SlotContents) : Type 0 where

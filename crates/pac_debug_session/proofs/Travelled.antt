@@ -1,7 +1,7 @@
 -- A motion is steps forwards, one after another, up to the least index at which it rests.
-use Rattle.std.proofs.Common.{◌≡◌, ℕ, ◌-◌, ◌<◌, ◌≤◌, Bool, true, false, not, ◌&&◌, ◌||◌, is_none, max, rules}
-use Rattle.std.proofs.Common.{Option, None, Some, ◌++◌, refl, sym, ap, subst, ◌∙◌, arith, inl, inr}
-use Rattle.std.proofs.lemmas.Bool.{and_parts, and_right, cases_lt, or_parts, or_right}
+use Rattle.std.proofs.Common.{◌≡◌, ℕ, ◌-◌, ◌<◌, ◌≤◌, Bool, true, false, not, ◌||◌, max, rules}
+use Rattle.std.proofs.Common.{Option, Some, ◌++◌, refl, sym, ap, subst, ◌∙◌, arith, inl, inr}
+use Rattle.std.proofs.lemmas.Bool.{and_parts, and_right, cases_lt, or_parts}
 use Rattle.std.proofs.lemmas.Bool.Decides.{nat_tests}
 use mathlib.Core.List.{IsPrefix}
 use Rattle.pac_board_course.specs.Stop.{Stop}
@@ -9,15 +9,14 @@ use Rattle.pac_board_course.proofs.Walks.{not-both}
 use Rattle.pac_board_course.proofs.Sinks.{took-both, cut-along, cut-after, prefix-after}
 use Rattle.pac_board_course.specs.SinksLaws.{Giving}
 use Rattle.pac_board_course.specs.Sinks.{TookAll}
-use Rattle.pac_board_course.specs.State.{nothing_due, steps_counted}
 use Rattle.pac_debug_session.specs.declared.motion.MotionEnd.{MotionEnd}
-use Rattle.pac_debug_session.specs.declared.motion.MotionEnd.TheVariants.{AtStop, AtEnd}
+use Rattle.pac_debug_session.specs.declared.motion.MotionEnd.TheVariants.{AtStop}
 use Rattle.pac_debug_session.specs.declared.motion.Motion.{Motion}
 use Rattle.pac_debug_session.specs.declared.motion.Motion.TheVariants.{Steps, Continue, Frames, ToEnd}
 use Rattle.pac_debug_session.specs.Motions.{is_done, has_met, rests, motion_ending, RestsBy, moved_to, HasTravelled}
 use Rattle.pac_debug_session.specs.MotionsProofs.{stop_of}
 use Rattle.pac_debug_session.specs.MotionsLaws.{IsTravelRefused}
-use Rattle.pac_debug_session.specs.Running.{now_at, limit, is_late, stop_at}
+use Rattle.pac_debug_session.specs.Running.{is_late, stop_at}
 use Rattle.pac_debug_session.specs.Running.{goes_at, outputs_between}
 use Rattle.pac_debug_session.specs.Session.{SessionValue, breaks_at}
 use Rattle.pac_debug_session.specs.SessionLaws.{IsSession}
@@ -31,9 +30,6 @@ use Rattle.std.proofs.Common.{min, rules}
 -- ---- where a motion rests
 
 module _ (s : SessionValue) (motion : Motion) (from : ℕ) where
-  rests-late : (index : ℕ) → is_late s.setting index ≡ true → rests s motion from index ≡ true
-  rests-late index late = or_right _ _ (ap (λ over. not (not over && is_none (stop_at s.setting index))) late)
-
   rests-stopped : (index : ℕ) (stop : Stop) → is_late s.setting index ≡ false → stop_at s.setting index ≡ Some stop
       → rests s motion from index ≡ true
   rests-stopped index stop early met = search rules
@@ -74,18 +70,9 @@ undone-within s from (Frames count) until at gone undone leap after before =
     cc (unbroken-within s until at both.0 leap.unmet after before, leap.unmet.frame at after before, both.1)
 undone-within s from ToEnd until at gone undone leap after before = refl
 
--- where it isn't done, a step is left
-some-left : (s : SessionValue) (from : ℕ) (motion : Motion) → from < s.index → is_done s motion from s.index ≡ false
-    → 1 ≤ steps_left motion (s.index - from)
-some-left s from motion gone undone = search rules
-
 module _ (s : SessionValue) (motion : Motion) (from : ℕ) (after : from ≤ s.index) (unmet : has_met s motion from s.index ≡ false) where
   undone : from < s.index → is_done s motion from s.index ≡ false
   undone more = search rules
-
-  -- so a stride can be made
-  pub may-stride : 1 ≤ longest_stride motion (s.index - from)
-  may-stride = search rules
 
   module _ (until : ℕ) (leap : IsLeap s (heeded_by motion s.breakpoints) (longest_stride motion (s.index - from)) until) where
     -- at no index within it has the motion done what it is for
@@ -115,18 +102,6 @@ module _ {S : Type 0} (to : Giving S) (old : SessionValue) (motion : Motion) (si
     pub restless : (earlier : ℕ) → old.index ≤ earlier → earlier < s.index → rests old motion old.index earlier ≡ false
     pub session : s ≡ moved_to old s.index
     pub sink_is : TookAll to.took sink (outputs_between old.setting old.furthest s.furthest) taker
-
-  pub underway-begins : IsSession old → old.due ≡ nothing_due → IsUnderway old sink
-  underway-begins facts nothing =
-      let far : old.furthest ≡ max old.furthest old.index = omega arith in
-      let counted = facts.counted in
-      let made : old.made ≡ steps_counted old.made (old.index - old.index) = omega arith in
-      record {
-        after = omega arith;
-        restless = λ earlier from less. absurd (omega arith);
-        session = λ i. record old { furthest = far i; due = nothing i; made = made i };
-        sink_is = subst (λ xs. TookAll to.took sink xs sink) (sym (between-self old.setting old.furthest)) refl;
-      }
 
   -- where it has come to, in a motion that began at this index
   module _ (s : SessionValue) (taker : S) (under : IsUnderway s taker) (from : ℕ) (from_is : from ≡ old.index) where
@@ -179,10 +154,6 @@ module _ {S : Type 0} (to : Giving S) (old : SessionValue) (motion : Motion) (si
         → HasTravelled to.took old motion sink why s taker
     rests-here why here by = search rules
 
-    pub underway-late : is_late s.setting s.index ≡ true → HasTravelled to.took old motion sink AtEnd s taker
-    underway-late late =
-        let over = late-there s.index true late in rests-here AtEnd (rests-late old motion old.index s.index over) over
-
     pub underway-met : is_late s.setting s.index ≡ false → has_met s motion from s.index ≡ true
         → HasTravelled to.took old motion sink (motion_ending motion (breaks_at s s.index)) s taker
     underway-met early met = let there = met-there _ _ met in
@@ -212,12 +183,6 @@ module _ {S : Type 0} (to : Giving S) (old : SessionValue) (motion : Motion) (si
               subst (λ xs. IsPrefix xs (before ++ refusal.cut.taken)) (given-on refusal.last (omega arith))
               (grind (arith, prefix-after, setting));
         }
-
-    -- the steps take of the time that is left
-    pub time-falls : (new : SessionValue) (later : S) → is_late s.setting s.index ≡ false
-        → HasStrode to.took s motion from taker None new later
-        → limit new.setting - (now_at new.setting new.index).time < limit s.setting - (now_at s.setting s.index).time
-    time-falls new later early one = search rules
 
   -- its next step meets a stop
   pub underway-stopped : (s new : SessionValue) (taker later : S) (stop : Stop) (from : ℕ) → from ≡ old.index → IsUnderway s taker

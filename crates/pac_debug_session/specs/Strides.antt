@@ -1,5 +1,5 @@
 -- For proofs: steps forwards in one go, which leave nothing to look at between them.
-use Rattle.std.specs.Prelude.{◌≡◌, ◌<◌, ◌≤◌, ℕ, ◌+◌, ◌-◌, ◌==◌, Bool}
+use Rattle.std.specs.Prelude.{◌≡◌, ◌<◌, ◌≤◌, ℕ, ◌+◌, ◌-◌, ◌*◌, ◌%◌, ◌==◌, min, Bool}
 use Rattle.std.specs.Prelude.{true, false, if◌then◌else◌, List, Option, None, Some, Result, Ok, Err}
 use Rattle.std.specs.List.{list_any}
 use mathlib.Core.List.{IsPrefix}
@@ -22,6 +22,10 @@ pub record MeetNothing (setting : Setting) (heeded : List ℕ) (from until : ℕ
   pub breaks : (index : ℕ) → from < index → index < until
       → list_any (λ address. address == (now_at setting index).regs.pc) heeded ≡ false
   pub frame : (index : ℕ) → from ≤ index → index < until → blanks_at setting index ≡ blanks_at setting from
+
+-- Steps in one go have begun by this time, so many at most, as each takes 4 T-states or more; and none past the next checkpoint's index.
+abbrev pub leap_limit : SessionValue → (most : ℕ) → ℕ
+leap_limit s most = (now_at s.setting s.index).time + 4 * min most (checkpoint_steps - s.index % checkpoint_steps)
 
 -- whether a motion heeds breakpoints
 abbrev pub heeds : Motion → Bool

@@ -7,7 +7,7 @@ ghost use Rattle.pac_debug_session.specs.Breakpoints.{heeded_if};
 ghost use Rattle.pac_debug_session.specs.Keeping.{kept_of, ring_after_index};
 ghost use Rattle.pac_debug_session.specs.Motions.{oldest_index, checkpoint_steps};
 ghost use Rattle.pac_debug_session.specs.Running.{is_late};
-ghost use Rattle.pac_debug_session.specs.Strides.{IsLeapt, Leaps, stop_unless};
+ghost use Rattle.pac_debug_session.specs.Strides.{IsLeapt, Leaps, leap_limit, stop_unless};
 
 use crate::checkpoints::Checkpoints;
 use crate::history::History;
@@ -47,6 +47,14 @@ fn unless_moved(
 }
 
 impl Session {
+    /// The time by which the last of so many steps has begun, none of them past the next index of a checkpoint.
+    fn leap_limit(&self, most: u64) -> u64
+        ensures { result ≡ leap_limit self.now most }
+    {
+        let most = most.min(CHECKPOINT_STEPS - self.board.steps() % CHECKPOINT_STEPS);
+        self.board.time() + LEAST_TICKS * most
+    }
+
     /// Does steps in one go, so many at most, none past the next index of a checkpoint, none past
     /// the next blank, and none but the first at a breakpoint that is heeded, and offers what they
     /// give. Answers the stop that the first of them met, if it did.
@@ -62,10 +70,9 @@ impl Session {
         ensures { Leaps (by S.took S.refused) self.old (heeded_if heeds self.old.breakpoints) most
             sink.old result self.new sink.new }
     {
+        let limit = self.leap_limit(most);
         let index = self.board.steps();
         take_at(&mut self.checkpoints, index, &self.board, &self.history);
-        let most = most.min(CHECKPOINT_STEPS - index % CHECKPOINT_STEPS);
-        let limit = self.board.time() + LEAST_TICKS * most;
         let stops = self.breakpoints.stops(heeds);
         let played = self
             .history

@@ -84,6 +84,7 @@ pub struct SessionRefused {
 }
 
 /// The slots, all empty. Refused for want of memory alone.
+#[tactic(auto, using(crate::proofs::Begun::empty_slots))]
 fn empty_slots(alloc: Global, board: &Board) -> Result<Vec<SlotContents>, AllocError>
     ensures { IfOk result (λ slots. (length slots.items ≡ slot_count) × AreEmpty slots.items) }
 {

@@ -1,16 +1,13 @@
 -- What stood before the steps stands after them, and what they gave was offered.
-use Rattle.std.proofs.Common.{◌≡◌, ◌+◌, ◌-◌, ◌*◌, ◌%◌, min, max, nat_lt, ap, sym, subst, ◌∙◌, arith, rules}
+use Rattle.std.proofs.Common.{◌≡◌, max, nat_lt, ap, sym, subst, ◌∙◌, arith, rules}
 use Rattle.pac_board_course.specs.RomParts.{Parts}
 use Rattle.pac_board_course.specs.SinksLaws.{by}
 use Rattle.pac_board_course.specs.State.{nothing_due}
-use Rattle.pac_board_course.specs.Step.{Moment}
 use Rattle.pac_debug_session.specs.Breakpoints.{heeded_if}
 use Rattle.pac_debug_session.specs.Inside.{IsStanding, AreSlotsRight, session_view}
 use Rattle.pac_debug_session.specs.Keeping.{kept_of, ring_after_index}
-use Rattle.pac_debug_session.specs.Motions.{checkpoint_steps}
-use Rattle.pac_debug_session.specs.Running.{now_at}
 use Rattle.pac_debug_session.specs.Session.{SessionValue}
-use Rattle.pac_debug_session.specs.Strides.{stop_unless}
+use Rattle.pac_debug_session.specs.Strides.{leap_limit, stop_unless}
 use Rattle.pac_debug_session.proofs.Leapt.{session_on, taken-up, leaps-so, stands-then, set-then, asked-then}
 use Rattle.pac_debug_session.proofs.Steppings.{IsLeft, left, right-later}
 use Rattle.pac_debug_session.proofs.session.Session.leap.Goals as goal
@@ -24,17 +21,10 @@ invariant_of-self g c =
     let board = inside.board.value in
     let new = c.go-played.new.board in
     let to = by g.S.Sink.took g.S.Sink.refused in
-    let limit = c.time.result + 4 * c.min-most.result in
     let nothing : board.state.due ≡ nothing_due = ap (λ (s : SessionValue). s.due) c.self.view_is ∙ c.requires.nothing in
-    let index_is : c.steps-index.result ≡ old.index = search rules in
-    let time_is : c.time.result ≡ board.state.now.time = search rules in
     let end_is : c.steps-now.result ≡ new.state.now.steps = search rules in
-    let limit_is : limit ≡ (now_at old.setting old.index).time + 4 * c.min-most.result
-    = ap (λ n. n + 4 * c.min-most.result) (time_is ∙ ap (λ (m : Moment _). m.time) stands.now_is) in
-    let fits_is : c.min-most.result ≡ min c.args.most (checkpoint_steps - old.index % checkpoint_steps)
-    = c.min-most.ensures ∙ ap (λ n. min c.args.most (checkpoint_steps - n % checkpoint_steps)) index_is in
-    let gone = taken-up to inside right c.deref_mut.result.now new limit c.stops-stops.result c.args.sink.now c.go-played.new.sink
-    c.go-played.result c.go-played.new.self c.deref_mut.ensures.value c.go-played.ensures in
+    let limit_is = c.leap_limit-limit.ensures ∙ ap (λ (s : SessionValue). leap_limit s c.args.most) (sym c.self.view_is) in
+    let gone = taken-up to inside right c.deref_mut.result.now new _ _ _ _ _ _ c.deref_mut.ensures.value c.go-played.ensures in
     let far : max inside.furthest new.state.now.steps ≡ c.max-self-inside.result
     = sym (c.max-self-inside.ensures ∙ ap (λ n. max inside.furthest n) end_is) in
     let ring : ring_after_index board.state.now.steps inside.checkpoints (kept_of board inside.history) ≡ c.take_at.new.checkpoints
@@ -48,7 +38,7 @@ invariant_of-self g c =
       unasked = grind (arith, asked-then);
       standing =
           subst (λ n. IsStanding (session_on old new).setting new.state.now c.go-played.new.self n c.take_at.new.checkpoints) far
-          (stands-then old stands.within stands.goes _ _ _ _ _ _ _ _ gone _ _ limit_is fits_is _ kept);
+          (stands-then old stands.within stands.goes _ _ _ _ _ _ _ _ gone _ limit_is _ kept);
       slots =
           subst (λ (set : Parts). AreSlotsRight (record old.setting { set = set }) c.max-self-inside.result inside.slots.items)
           (grind (arith, set-then))
@@ -65,19 +55,14 @@ returns g c =
     let board = inside.board.value in
     let new = c.go-played.new.board in
     let to = by g.S.Sink.took g.S.Sink.refused in
-    let limit = c.time.result + 4 * c.min-most.result in
     let index_is : c.steps-index.result ≡ old.index = search rules in
-    let time_is : c.time.result ≡ board.state.now.time = search rules in
     let end_is : c.steps-now.result ≡ new.state.now.steps = search rules in
-    let limit_is : limit ≡ (now_at old.setting old.index).time + 4 * c.min-most.result
-    = ap (λ n. n + 4 * c.min-most.result) (time_is ∙ ap (λ (m : Moment _). m.time) stands.now_is) in
-    let fits_is : c.min-most.result ≡ min c.args.most (checkpoint_steps - old.index % checkpoint_steps)
-    = c.min-most.ensures ∙ ap (λ n. min c.args.most (checkpoint_steps - n % checkpoint_steps)) index_is in
+    let limit_is = c.leap_limit-limit.ensures ∙ ap (λ (s : SessionValue). leap_limit s c.args.most) (sym c.self.view_is) in
     let gone = taken-up to inside right c.deref_mut.result.now new _ _ _ _ _ _ c.deref_mut.ensures.value c.go-played.ensures in
     let far : max inside.furthest new.state.now.steps ≡ c.max-self-inside.result
     = sym (c.max-self-inside.ensures ∙ ap (λ n. max inside.furthest n) end_is) in
     let heeded = heeded_if c.args.heeds old.breakpoints in
     let moved : c.unless_moved.result ≡ stop_unless (nat_lt old.index new.state.now.steps) c.go-played.result
     = c.unless_moved.ensures ∙ (λ i. stop_unless (nat_lt (index_is i) (end_is i)) c.go-played.result) in
-    let leaps = leaps-so old stands.within stands.goes to _ _ _ _ _ _ _ _ limit_is fits_is _ c.stops-stops.ensures _ gone in
+    let leaps = leaps-so old stands.within stands.goes to _ _ _ _ _ _ _ limit_is _ c.stops-stops.ensures _ gone in
     grind (arith, session_on)

@@ -1,5 +1,5 @@
 -- From step to step.
-use Rattle.std.proofs.Common.{ap, sym, subst, ◌∙◌, rules}
+use Rattle.std.proofs.Common.{ap, sym, subst, ◌∙◌, rules, arith}
 use Rattle.std.proofs.lemmas.Result.{err_from_is_err_and}
 use Rattle.pac_board_course.specs.SinksLaws.{by}
 use Rattle.pac_debug_session.specs.declared.motion.MotionEnd.{MotionEnd}
@@ -10,14 +10,10 @@ use Rattle.pac_debug_session.proofs.session.Session.travel.Goals as goal
 pub onwards-preserved : goal.onwards-preserved
 onwards-preserved g c =
     let so_far = c.onwards.invariant in
-    record {
-      under =
-          underway-more _ _ _ c.args.sink.now _ _ so_far.under _ so_far.from_is _ _ _
-          (sym c.has_met.ensures ∙ c.if-has_met.false) c.in_ok-stop.ensures;
-      from_is = so_far.from_is;
-      blanks_is = so_far.blanks_is;
-      bound = so_far.bound;
-    }
+    let under_is =
+    underway-more _ _ _ c.args.sink.now _ _ so_far.under _ so_far.from_is _ _ _
+    (sym c.has_met.ensures ∙ c.if-has_met.false) c.in_ok-stop.ensures in
+    grind (arith, underway-more)
 
 pub returns-then-has_met : goal.returns-then-has_met
 returns-then-has_met g c =
