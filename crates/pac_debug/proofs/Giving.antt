@@ -1,6 +1,6 @@
 -- What lines give to a sink, whatever they ask: what was due, and what the run gives from one furthest index to the next.
 use Rattle.std.proofs.Common.{◌≡◌, ℕ, ◌+◌, ◌≤◌, Bool, Option, None, Some, Result, Ok, Err, max, List, [], ◌∷◌, ◌++◌, ◌⊎◌}
-use Rattle.std.proofs.Common.{refl, sym, ap, ◌∙◌, append_assoc, append-nil, arith, rules}
+use Rattle.std.proofs.Common.{refl, sym, ap, ◌∙◌, append_assoc, arith, rules}
 use mathlib.Core.Logic.{inl, inr}
 use Rattle.pac_board.specs.Output.{Output}
 use Rattle.pac_board.specs.SinksLaws.{Giving, Cut}
@@ -88,13 +88,7 @@ module _ {S : Type 0} (took : S → Output → S → Type 0) where
       → IsCommandDone took old asked sink answer new later → GaveAll took old sink new later
   did-given old asked sink answer new later did =
       let done = obeyed (session_without_due old) asked did.between answer new later refl did.obeyed in
-      let given = outputs_until old new in
-      record {
-        further = record { setting = done.setting; furthest = done.further };
-        taken = given;
-        parts = sym (ap (λ xs. given ++ xs) (nothing-given new done.due) ∙ append-nil given);
-        sink_is = grind (arith, took-both);
-      }
+      let given = outputs_until old new in search (rules, arith, nothing-given, took-both)
 
 -- ---- a refusal
 
@@ -150,25 +144,23 @@ module _ {S : Type 0} (to : Giving S) where
 
   pub some-after : (old mid new : SessionValue) (sink between later : S) → GaveAll to.took old sink mid between
       → GaveSome to mid between new later → GaveSome to old sink new later
-  some-after old mid new sink between later first second =
-      record {
-        further = further-on old mid new first.further second.further;
-        cut =
-            cut-along (given-on old mid new first.taken first.further second.further first.parts) refl
-            (cut-after first.taken sink between later first.sink_is second.cut);
-      }
+  some-after old mid new sink between later first second = record {
+    further = further-on old mid new first.further second.further;
+    cut =
+        cut-along (given-on old mid new first.taken first.further second.further first.parts) refl
+        (cut-after first.taken sink between later first.sink_is second.cut);
+  }
 
   all-after : (old mid new : SessionValue) (sink between later : S) → GaveAll to.took old sink mid between
       → GaveAll to.took mid between new later → GaveAll to.took old sink new later
-  all-after old mid new sink between later first second =
-      record {
-        further = further-on old mid new first.further second.further;
-        taken = first.taken ++ second.taken;
-        parts =
-            given-on old mid new first.taken first.further second.further first.parts ∙ ap (λ xs. first.taken ++ xs) second.parts
-            ∙ sym (append_assoc first.taken second.taken (session_due_outputs new));
-        sink_is = took-both to.took first.taken second.taken sink between later first.sink_is second.sink_is;
-      }
+  all-after old mid new sink between later first second = record {
+    further = further-on old mid new first.further second.further;
+    taken = first.taken ++ second.taken;
+    parts =
+        given-on old mid new first.taken first.further second.further first.parts ∙ ap (λ xs. first.taken ++ xs) second.parts
+        ∙ sym (append_assoc first.taken second.taken (session_due_outputs new));
+    sink_is = took-both to.took first.taken second.taken sink between later first.sink_is second.sink_is;
+  }
 
   gave-after : {A : Type 0} (result : Result A CommandFault) (old mid new : SessionValue) (sink between later : S)
       → GaveAll to.took old sink mid between → LinesGive to mid between result new later → LinesGive to old sink result new later
@@ -196,6 +188,4 @@ module _ {S : Type 0} (to : Giving S) where
         (lines-given more (Ok done) obeyed.between new obeyed.after)
     lines-given (line ∷ more) (Err fault) old new (inl here) = line-given (command_of line) (Err fault) old new here
     lines-given (line ∷ more) (Err fault) old new (inr later) =
-        gave-after {A = Unit {0}} (Err fault) old.session later.between.session new.session old.sink later.between.sink new.sink
-        (line-given (command_of line) (Ok tt) old later.between later.before)
-        (lines-given more (Err fault) later.between new later.after)
+        search (rules, arith, gave-after, line-given, lines-given more (Err fault) later.between new later.after)

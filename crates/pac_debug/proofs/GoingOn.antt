@@ -1,11 +1,10 @@
--- Lines that go on after one that wasn't answered: what the sink was offered, where they leave the session, and what the file took.
+-- Lines that go on after one that wasn't answered: where they leave the session, and what the file took.
 use Rattle.std.proofs.Common.{◌≡◌, ℕ, ◌<◌, true, Option, None, Some, Result, Ok, Err, List, [], ◌∷◌, ◌++◌, length, rules}
 use Rattle.std.proofs.Common.{refl, sym, ap, subst, ◌∙◌, append_assoc, arith}
 use Rattle.std.proofs.lemmas.List.{append_cancel_left}
 use mathlib.Core.Logic.{inl, inr}
 use Rattle.pac_board.specs.Output.{Output}
 use Rattle.pac_board.specs.SinksLaws.{Giving}
-use Rattle.pac_board.specs.Sinks.{TookAll}
 use Rattle.pac_out.specs.declared.counted.Counted.{Counted}
 use Rattle.pac_debug_text.specs.declared.command.Command.{Command}
 use Rattle.pac_debug_text.specs.declared.command.NoCommand.{NoCommand}
@@ -15,117 +14,21 @@ use Rattle.pac_debug_session.specs.Motions.{rests}
 use Rattle.pac_debug_session.specs.Running.{outputs_between}
 use Rattle.pac_debug_session.specs.Session.{SessionValue}
 use Rattle.pac_debug_session.specs.SessionLaws.{session_due_outputs}
-use Rattle.pac_debug_session.proofs.Forwards.{between-joined, between-self}
-use Rattle.pac_debug.specs.declared.line.CommandFault.{CommandFault}
+use Rattle.pac_debug_session.proofs.Forwards.{between-joined}
 use Rattle.pac_debug.specs.declared.line.CommandFault.TheVariants as faults
-use Rattle.pac_debug.specs.GoingOn.{LineAnswer, AnswersEach, Offered, WasTaken, WasRefused, WasOffered, AreInOrder, IsHeldUpAfter}
-use Rattle.pac_debug.specs.GoingOn.{AreDoneInTurn, EndIn, IsHeldUpAt, NoneIsTold, GoesIntoFile, ComesTo, LinesGoOn, TextsAreLines}
+use Rattle.pac_debug.specs.GoingOn.{LineAnswer, AnswersEach, IsHeldUpAfter}
+use Rattle.pac_debug.specs.GoingOn.{AreDoneInTurn, EndIn, IsHeldUpAt, NoneIsTold, GoesIntoFile, ComesTo, LeavesLine, TextsAreLines}
 use Rattle.pac_debug.specs.ObeyingLaws.{Scene, Commands, IsHeldUp, IsLineAnswered}
 use Rattle.pac_debug.specs.Obeying.{session_without_due}
-use Rattle.pac_debug.specs.WatchedLaws.{IsFurther, RefusedOf, outputs_until}
-use Rattle.pac_debug.specs.WatchedProofs.{LinesGive}
-use Rattle.pac_debug.proofs.Giving.{further-on, line-given}
+use Rattle.pac_debug.specs.WatchedLaws.{RefusedOf}
+use Rattle.pac_debug.proofs.Giving.{line-given}
 use Rattle.pac_debug.proofs.Telling.{line-told, line-refused, line-untold}
-
--- ---- offers in order
-
--- all of these were taken
-abbrev taken_offers : List Output → List Offered
-taken_offers [] = []
-taken_offers (output ∷ more) = WasTaken output ∷ taken_offers more
-
-order-taken : (outputs left : List Output) → AreInOrder (outputs ++ left) (taken_offers outputs) left
-order-taken [] left = refl
-order-taken (output ∷ more) left = (refl, order-taken more left)
-
-order-refused : (outputs rest : List Output) (first : Output)
-    → AreInOrder (outputs ++ first ∷ rest) (taken_offers outputs ++ WasRefused first ∷ []) (first ∷ rest)
-order-refused [] rest first = (refl, refl)
-order-refused (output ∷ more) rest first = (refl, order-refused more rest first)
-
-order-both : (outputs more : List Output) (first second : List Offered) (left last : List Output) → AreInOrder outputs first left
-    → AreInOrder (left ++ more) second last → AreInOrder (outputs ++ more) (first ++ second) last
-order-both outputs more [] second left last before after = subst (λ xs. AreInOrder (xs ++ more) second last) before after
-order-both [] more (offer ∷ first) second left last before after = absurd before
-order-both (output ∷ outputs) more (WasTaken given ∷ first) second left last before after =
-    (before.0, order-both outputs more first second left last before.1 after)
-order-both (output ∷ outputs) more (WasRefused given ∷ first) second left last before after =
-    (before.0, order-both (output ∷ outputs) more first second left last before.1 after)
+use Rattle.pac_debug.proofs.Offers.{HasGiven, gave-none, gave-by, gave-on}
 
 some-due : (due : List Output) (first : Output) (rest : List Output) → due ≡ first ∷ rest → 0 < length due
 some-due due first rest is = subst (λ (xs : List Output). 0 < length xs) (sym is) (omega arith)
 
 module _ {S : Type 0} (to : Giving S) where
-  all-offered : (outputs : List Output) (old new : S) → TookAll to.took old outputs new → WasOffered to old (taken_offers outputs) new
-  all-offered [] old new same = same
-  all-offered (output ∷ more) old new took =
-      record { between = took.between; before = took.before; after = all-offered more took.between new took.after }
-
-  offered-both : (first second : List Offered) (old between new : S) → WasOffered to old first between → WasOffered to between second new
-      → WasOffered to old (first ++ second) new
-  offered-both [] second old between new before after = subst (λ s. WasOffered to s second new) before after
-  offered-both (WasTaken output ∷ more) second old between new before after =
-      record {
-        between = before.between;
-        before = before.before;
-        after = offered-both more second before.between between new before.after after;
-      }
-  offered-both (WasRefused output ∷ more) second old between new before after =
-      record {
-        between = before.between;
-        before = before.before;
-        after = offered-both more second before.between between new before.after after;
-      }
-
-  -- ---- what one line gave, and what lines gave
-
-  record HasGiven (old : SessionValue) (sink : S) (new : SessionValue) (later : S) : Type 0 where
-    pub further : IsFurther old new
-    pub offers : List Offered
-    pub offered : WasOffered to sink offers later
-    pub in_order : AreInOrder (outputs_until old new) offers (session_due_outputs new)
-
-  gave-none : (s : SessionValue) (sink : S) → HasGiven s sink s sink
-  gave-none s sink = grind (arith, between-self)
-
-  gave-by : {A : Type 0} (answer : Result A CommandFault) (old : SessionValue) (sink : S) (new : SessionValue) (later : S)
-      → LinesGive to old sink answer new later → HasGiven old sink new later
-  gave-by (Err faults.Refused) old sink new later gave =
-      let cut = gave.cut in
-      let offers = taken_offers cut.taken ++ WasRefused cut.refuses.first ∷ [] in
-      record {
-        further = gave.further;
-        offers = offers;
-        offered =
-            offered-both (taken_offers cut.taken) (WasRefused cut.refuses.first ∷ []) sink cut.refuses.asked later
-            (all-offered cut.taken sink cut.refuses.asked cut.refuses.before)
-            (record { between = later; before = cut.refuses.refusal; after = refl });
-        in_order = grind (arith, order-refused);
-      }
-  gave-by answer old sink new later gave =
-      record {
-        further = gave.further;
-        offers = taken_offers gave.taken;
-        offered = all-offered gave.taken sink later gave.sink_is;
-        in_order =
-            subst (λ xs. AreInOrder xs (taken_offers gave.taken) (session_due_outputs new)) (sym gave.parts)
-            (order-taken gave.taken (session_due_outputs new));
-      }
-
-  gave-on : (old mid new : SessionValue) (sink between later : S) → HasGiven old sink mid between → HasGiven mid between new later
-      → HasGiven old sink new later
-  gave-on old mid new sink between later first second =
-      let due = session_due_outputs old in
-      let given = outputs_between old.setting old.furthest mid.furthest in
-      let joined : outputs_until old mid ++ outputs_between mid.setting mid.furthest new.furthest ≡ outputs_until old new
-      = grind (arith, between-joined) in
-      record {
-        further = further-on old mid new first.further second.further;
-        offers = first.offers ++ second.offers;
-        offered = offered-both first.offers second.offers sink between later first.offered second.offered;
-        in_order = grind (arith, order-both);
-      }
-
   -- ---- where a refused line leaves the session
 
   same-rest : (s : SessionValue) (motion : Motion) (from index : ℕ)
@@ -181,59 +84,46 @@ module _ {S : Type 0} (to : Giving S) where
         (after : AnswersEach to wrote balked lines answers mid new) (rest : ComesTo to wrote balked lines answers mid new)
       where
         given-in-all : (answer : LineAnswer) → Commands to wrote balked line old answer mid
-            → HasGiven old.session old.sink new.session new.sink
+            → HasGiven to old.session old.sink new.session new.sink
         given-in-all answer here = grind (arith, gave-by, gave-on, line-given)
+
+        -- by where it leaves the session, and what the file took
+        first-as : (answer : LineAnswer) (text : List ℕ) → Commands to wrote balked line old answer mid
+            → LeavesLine line answer old.session text mid.session
+            → GoesIntoFile wrote balked (line ∷ lines) (answer ∷ answers) (text ∷ rest.texts) old.text new.text
+            → ComesTo to wrote balked (line ∷ lines) (answer ∷ answers) old new
+        first-as answer text here left file =
+            let given = given-in-all answer here in
+            record {
+              further = given.further;
+              offers = given.offers;
+              offered = given.offered;
+              in_order = given.in_order;
+              texts = text ∷ rest.texts;
+              left = record { between = mid.session; before = left; after = rest.left };
+              file = file;
+            }
 
         first-then : (answer : LineAnswer) → Commands to wrote balked line old answer mid
             → ComesTo to wrote balked (line ∷ lines) (answer ∷ answers) old new
         first-then (Ok done) here =
-            let given = given-in-all (Ok done) here in
             let told = line-told to wrote balked done (command_of line) old mid here in
-            record {
-              further = given.further;
-              offers = given.offers;
-              offered = given.offered;
-              in_order = given.in_order;
-              texts = told.text ∷ rest.texts;
-              left = record { between = mid.session; before = told.tells; after = rest.left };
-              file = record { between = mid.text; before = (told.takes, told.later); after = rest.file };
-            }
+            first-as (Ok done) told.text here told.tells (record { between = mid.text; before = (told.takes, told.later); after = rest.file })
         first-then (Err faults.Refused) here =
-            let given = given-in-all (Err faults.Refused) here in
             let refusal = line-refused to wrote balked (command_of line) old mid here in
-            record {
-              further = given.further;
-              offers = given.offers;
-              offered = given.offered;
-              in_order = given.in_order;
-              texts = [] ∷ rest.texts;
-              left = grind (arith, held-at);
-              file = subst (λ (file : Counted W). GoesIntoFile wrote balked lines answers rest.texts file new.text) refusal.1 rest.file;
-            }
+            first-as (Err faults.Refused) [] here (held-at (command_of line) old.session old.sink mid.session mid.sink refusal.0, refl)
+            (subst (λ (file : Counted W). GoesIntoFile wrote balked lines answers rest.texts file new.text) refusal.1 rest.file)
         first-then (Err (faults.Text fault)) here =
-            let given = given-in-all (Err (faults.Text fault)) here in
             let told = line-untold to wrote balked (command_of line) fault old mid here in
             let closed = stays-closed lines answers mid new after told.refuses.closed in
-            record {
-              further = given.further;
-              offers = given.offers;
-              offered = given.offered;
-              in_order = given.in_order;
-              texts = told.text ∷ rest.texts;
-              left = record { between = mid.session; before = told.tells; after = rest.left };
-              file = search rules;
-            }
+            first-as (Err (faults.Text fault)) told.text here told.tells (search rules)
 
     pub comes-to : (lines : List (List ℕ)) (answers : List LineAnswer) (old new : Scene S W)
         → AnswersEach to wrote balked lines answers old new → ComesTo to wrote balked lines answers old new
-    comes-to [] [] old new same = let given = gave-none old.session old.sink in search rules
+    comes-to [] [] old new same = let given = gave-none to old.session old.sink in search rules
     comes-to (line ∷ lines) (answer ∷ answers) old new all =
         first-then line lines answers old all.between new all.after (comes-to lines answers all.between new all.after) answer all.before
     comes-to lines answers old new all = absurd all
-
-pub lines-go-on : {S W : Type 0} (to : Giving S) (wrote : W → List ℕ → W → Type 0) (balked : W → W → Type 0)
-    → LinesGoOn to wrote balked
-lines-go-on to wrote balked = comes-to to wrote balked
 
 -- ---- a text of lines
 
@@ -245,15 +135,14 @@ module _ {S W : Type 0} (to : Giving S) (wrote : W → List ℕ → W → Type 0
   one-more : (line : List ℕ) (lines : List (List ℕ)) (old mid new : Scene S W) (result : LineAnswer)
       → IsLineAnswered to wrote balked line old mid → AreDoneInTurn to wrote balked lines mid result new
       → AreDoneInTurn to wrote balked (line ∷ lines) old result new
-  one-more line lines old mid new result here rest =
-      record {
-        before = line ∷ rest.before;
-        left = rest.left;
-        parts = ap (λ ls. line ∷ ls) rest.parts;
-        answers = Ok tt ∷ rest.answers;
-        end_is = end-after rest.answers result rest.end_is;
-        each = record { between = mid; before = here; after = rest.each };
-      }
+  one-more line lines old mid new result here rest = record {
+    before = line ∷ rest.before;
+    left = rest.left;
+    parts = ap (λ ls. line ∷ ls) rest.parts;
+    answers = Ok tt ∷ rest.answers;
+    end_is = end-after rest.answers result rest.end_is;
+    each = record { between = mid; before = here; after = rest.each };
+  }
 
   pub in-turn : TextsAreLines to wrote balked
   in-turn [] old (Ok done) new same =
@@ -261,14 +150,13 @@ module _ {S W : Type 0} (to : Giving S) (wrote : W → List ℕ → W → Type 0
   in-turn [] old (Err fault) new obeyed = absurd obeyed
   in-turn (line ∷ lines) old (Ok done) new obeyed =
       one-more line lines old obeyed.between new (Ok done) obeyed.before (in-turn lines obeyed.between (Ok done) new obeyed.after)
-  in-turn (line ∷ lines) old (Err fault) new (inl here) =
-      record {
-        before = line ∷ [];
-        left = lines;
-        parts = refl;
-        answers = Err fault ∷ [];
-        end_is = refl;
-        each = record { between = new; before = here; after = refl };
-      }
+  in-turn (line ∷ lines) old (Err fault) new (inl here) = record {
+    before = line ∷ [];
+    left = lines;
+    parts = refl;
+    answers = Err fault ∷ [];
+    end_is = refl;
+    each = record { between = new; before = here; after = refl };
+  }
   in-turn (line ∷ lines) old (Err fault) new (inr later) =
       one-more line lines old later.between new (Err fault) later.before (in-turn lines later.between (Err fault) new later.after)

@@ -7,7 +7,6 @@ use mathlib.Core.Logic.{inl, inr}
 use Rattle.pac_board.specs.Output.{Output}
 use Rattle.pac_board.specs.SinksLaws.{Giving}
 use Rattle.pac_board.specs.State.{nothing_due}
-use Rattle.pac_out.specs.declared.WriteFault.{WriteFault}
 use Rattle.pac_debug_text.specs.declared.command.NoCommand.{NoCommand}
 use Rattle.pac_debug_text.specs.declared.command.Command.{Command}
 use Rattle.pac_debug_text.specs.Commands.{command_of}
@@ -23,7 +22,7 @@ use Rattle.pac_debug.specs.Answers.{ending_of, answer_text}
 use Rattle.pac_debug.specs.ObeyingLaws.{Scene}
 use Rattle.pac_debug.specs.Obeying.{IsCommandPerformed, IsCommandObeyed, session_without_due}
 use Rattle.pac_debug.specs.Watched.{takes_all, TellsOfCommand, TellsAll, given_by, FirstGivesMore, ToldUpTo}
-use Rattle.pac_debug.specs.WatchedLaws.{outputs_until, RefusedOf, RefusedAt, IsWatchRefused, IsWatchUntold}
+use Rattle.pac_debug.specs.WatchedLaws.{outputs_until, RefusedOf, RefusedAt, IsWatchRefused}
 use Rattle.pac_debug.proofs.Giving.{nothing-given}
 use Rattle.pac_debug.proofs.Resting.{ComesToRest, comes-to-rest}
 
@@ -42,15 +41,9 @@ lines-clear (line ∷ more) old new text tells none =
 
 -- and the run is the same
 
-line-setting : (found : Option (Result Command NoCommand)) (old new : SessionValue) (text : List ℕ) → TellsOfCommand found old text new
-    → new.setting ≡ old.setting
-line-setting found old new text tells = search rules
-
 lines-setting : (lines : List (List ℕ)) (old new : SessionValue) (text : List ℕ) → TellsAll lines old text new → new.setting ≡ old.setting
 lines-setting [] old new text tells = ap (λ (s : SessionValue). s.setting) tells.1
-lines-setting (line ∷ more) old new text tells =
-    lines-setting more tells.between new tells.text_after tells.after
-    ∙ line-setting (command_of line) old tells.between tells.text_before tells.before
+lines-setting (line ∷ more) old new text tells = search (rules, arith, lines-setting more tells.between new tells.text_after tells.after)
 
 -- ---- how many outputs a run has given
 
@@ -188,12 +181,6 @@ module _ {S W : Type 0} (to : Giving S) (wrote : W → List ℕ → W → Type 0
       let here =
       held-up-in to setting cut.taken held.between new.session held.sink_between new.sink clear held.gave.further.setting
       (all-given setting old.session new.session cut.taken fresh cut.parts) left held.after held.refusal in search rules
-
--- where a text was refused, the sink took what the lines till then give
-pub untold-gives : {S W : Type 0} (took : S → Output → S → Type 0) (wrote : W → List ℕ → W → Type 0) (balked : W → W → Type 0)
-    (lines : List (List ℕ)) (old new : Scene S W) (fault : WriteFault) → old.session ≡ session_at_start old.session.setting 0
-    → (halt : IsWatchUntold took wrote balked lines old fault new) → halt.in_all.taken ≡ given_by new.session
-untold-gives took wrote balked lines old new fault fresh halt = search rules
 
 -- where all lines were told, and the run came to its end, all outputs are enough
 pub all-told : (lines : List (List ℕ)) (old left : SessionValue) (told : List ℕ) → old ≡ session_at_start old.setting 0

@@ -1,6 +1,6 @@
 -- The last ones of a list, written one after another.
 use Rattle.std.proofs.Common.{◌≡◌, ℕ, ◌+◌, ◌-◌, ◌<◌, ◌≤◌, List, length, get_or, set, take, drop, ◌∙◌, arith}
-use Rattle.std.proofs.lemmas.List.{take_more, take_more_set, get_or-drop, length-drop}
+use Rattle.std.proofs.lemmas.List.{take_more, take_more_set, get_or-drop, length-drop, length-set}
 use Rattle.std.proofs.lemmas.Option.{get_or_from_slice_get, slice_get_within}
 use Rattle.std.specs.Prelude.{slice_get, Some}
 use Rattle.pac_debug_session.specs.Past.{past_steps, told_at}
@@ -15,3 +15,5 @@ one-more written all first i x room is front =
 
 pub told-few : (setting : Setting) (index : ℕ) → length (told_at setting index) ≤ 256
 told-few setting index = omega (arith, length-drop (length (past_steps setting index) - 256) (past_steps setting index))
+
+pub ruleset more_lasting = (length-set, one-more, told-few)

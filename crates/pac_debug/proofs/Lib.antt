@@ -6,5 +6,6 @@ pub mod ToTheEnd
 pub mod Sole
 pub mod Resting
 pub mod HeldUp
+pub mod Offers
 pub mod GoingOn
 pub mod StepsMade

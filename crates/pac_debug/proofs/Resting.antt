@@ -1,7 +1,6 @@
 -- Each motion comes to rest, and each command is answered: so all lines tell something.
-use Rattle.std.proofs.Common.{◌≡◌, ℕ, ◌+◌, ◌-◌, ◌==◌, ◌<◌, ◌≤◌, nat_le, nat_lt, Bool, true, false, not, ◌||◌}
-use Rattle.std.proofs.Common.{filter, Option, None, Some, Result, Ok, Err, List, [], ◌∷◌, ◌++◌, length, refl, sym, subst}
-use Rattle.std.proofs.Common.{length-append, arith, rules}
+use Rattle.std.proofs.Common.{◌≡◌, ℕ, ◌+◌, ◌-◌, ◌==◌, ◌<◌, ◌≤◌, nat_le, nat_lt, Bool, true, false, not, ◌||◌, filter, Option, None, Some}
+use Rattle.std.proofs.Common.{Result, Ok, Err, List, [], ◌∷◌, ◌++◌, length, refl, sym, subst, length-append, ◌⊎◌, arith, rules}
 use Rattle.std.proofs.lemmas.Bool.Decides.{nat_tests}
 use Rattle.std.proofs.lemmas.List.Filters.{length-filter_both}
 use mathlib.Core.Logic.{inl, inr}
@@ -86,29 +85,24 @@ goes-back : (old : SessionValue) (count : ℕ) → GoesBack old count
 goes-back old count =
     choose (nat_le count old.index) (nat_le (oldest_index old.furthest) (old.index - count)) refl refl
   where
+    too-far : (old.index < count) ⊎ (old.index - count < oldest_index old.furthest) → GoesBack old count
+    too-far older = record {
+      answer = answers.Refused (refusals.TooFarBack (oldest_index old.furthest));
+      new = old;
+      went = record { older = older; oldest_is = refl; session = refl };
+      breakpoints = refl;
+    }
+
     choose : (enough kept : Bool) → nat_le count old.index ≡ enough → nat_le (oldest_index old.furthest) (old.index - count) ≡ kept
         → GoesBack old count
-    choose true true e f =
-        record {
-          answer = answers.Moved endings.Back;
-          new = back_to old (old.index - count);
-          went = record { enough = grind (arith, nat_tests); kept = grind (arith, nat_tests); session = refl };
-          breakpoints = refl;
-        }
-    choose false kept e f =
-        record {
-          answer = answers.Refused (refusals.TooFarBack (oldest_index old.furthest));
-          new = old;
-          went = record { older = inl (grind (arith, nat_tests)); oldest_is = refl; session = refl };
-          breakpoints = refl;
-        }
-    choose true false e f =
-        record {
-          answer = answers.Refused (refusals.TooFarBack (oldest_index old.furthest));
-          new = old;
-          went = record { older = inr (grind (arith, nat_tests)); oldest_is = refl; session = refl };
-          breakpoints = refl;
-        }
+    choose true true e f = record {
+      answer = answers.Moved endings.Back;
+      new = back_to old (old.index - count);
+      went = record { enough = grind (arith, nat_tests); kept = grind (arith, nat_tests); session = refl };
+      breakpoints = refl;
+    }
+    choose false kept e f = too-far (inl (grind (arith, nat_tests)))
+    choose true false e f = too-far (inr (grind (arith, nat_tests)))
 
 record ComesBack (old : SessionValue) (kept : Option ℕ) : Type 0 where
   pub answer : Answer
@@ -184,13 +178,12 @@ record LineTells (found : Option (Result Command NoCommand)) (old : SessionValue
 line-tells : (found : Option (Result Command NoCommand)) (old : SessionValue) → length old.breakpoints ≤ most_breakpoints
     → LineTells found old
 line-tells None old few = record { text = []; new = old; tells = (refl, refl); few = few }
-line-tells (Some (Err none)) old few =
-    record {
-      text = answer_text (session_without_due old) (answers.Refused refusals.NoCommand);
-      new = session_without_due old;
-      tells = record { answer = answers.Refused refusals.NoCommand; obeyed = (refl, refl, refl); text_is = refl };
-      few = few;
-    }
+line-tells (Some (Err none)) old few = record {
+  text = answer_text (session_without_due old) (answers.Refused refusals.NoCommand);
+  new = session_without_due old;
+  tells = record { answer = answers.Refused refusals.NoCommand; obeyed = (refl, refl, refl); text_is = refl };
+  few = few;
+}
 line-tells (Some (Ok command)) old few =
     let done = does (session_without_due old) command few in
     record {
@@ -200,14 +193,11 @@ line-tells (Some (Ok command)) old few =
       few = done.few;
     }
 
-pub all-lines-tell : AllLinesTell
-all-lines-tell [] old few = record { text = []; new = old; tells = (refl, refl); few = few }
-all-lines-tell (line ∷ more) old few =
+pub all_lines_tell : AllLinesTell
+all_lines_tell [] old few = record { text = []; new = old; tells = (refl, refl); few = few }
+all_lines_tell (line ∷ more) old few =
     let first = line-tells (command_of line) old few in
-    let rest = all-lines-tell more first.new first.few in
-    record {
-      text = first.text ++ rest.text;
-      new = rest.new;
-      tells = told-then line more old first.new rest.new first.text rest.text first.tells rest.tells;
-      few = rest.few;
-    }
+    let rest = all_lines_tell more first.new first.few in
+    let text_is = first.text ++ rest.text in
+    let tells_is = told-then line more old first.new rest.new first.text rest.text first.tells rest.tells in
+    grind (arith, told-then)

@@ -1,5 +1,5 @@
 -- What lines tell, and where they leave a session, is determined by them and by where the session stood.
-use Rattle.std.proofs.Common.{◌≡◌, ℕ, ◌-◌, ◌<◌, nat_lt, Bool, true, false, Option, None, Some, Result, Ok, Err, List, [], ◌∷◌, ◌++◌}
+use Rattle.std.proofs.Common.{◌≡◌, ℕ, ◌-◌, ◌<◌, nat_lt, Bool, true, false, Option, None, Some, Result, Ok, Err, List, [], ◌∷◌, rules}
 use Rattle.std.proofs.Common.{◌⊎◌, refl, sym, ap, subst, ◌∙◌, arith}
 use Rattle.std.proofs.lemmas.Bool.Decides.{nat_tests}
 use mathlib.Core.Logic.{inl, inr}
@@ -16,12 +16,11 @@ use Rattle.pac_debug_text.specs.Slots.{slot_index}
 use Rattle.pac_debug_session.specs.declared.motion.MotionEnd.{MotionEnd}
 use Rattle.pac_debug_session.specs.declared.motion.MotionEnd.TheVariants.{AtStop, AtEnd, AtBreakpoint, AtFrame, AtStep}
 use Rattle.pac_debug_session.specs.declared.motion.Motion.{Motion}
-use Rattle.pac_debug_session.specs.Motions.{RestsBy, IsDone, IsBack, IsTooOld, has_met, motion_ending, moved_to, oldest_index}
+use Rattle.pac_debug_session.specs.Motions.{RestsBy, IsDone, IsBack, IsTooOld, has_met, motion_ending, oldest_index}
 use Rattle.pac_debug_session.specs.Running.{IsLeast, is_late, stop_at}
 use Rattle.pac_debug_session.specs.Session.{SessionValue, breaks_at, has_breakpoint}
 use Rattle.pac_debug.specs.declared.answer.Answer.{Answer}
 use Rattle.pac_debug.specs.declared.answer.Answer.TheVariants as answers
-use Rattle.pac_debug.specs.Answers.{ending_of, answer_text}
 use Rattle.pac_debug.specs.Obeying.{AnswersBack, AnswersReturn, SetsBreakpoint, Stays, HasMoved, IsCommandPerformed, IsCommandObeyed}
 use Rattle.pac_debug.specs.Obeying.{kept_at, motion_of}
 use Rattle.pac_debug.specs.Watched.{TellsOfCommand, TellsAll}
@@ -79,10 +78,7 @@ module _ {S : Type 0} (took : S → Output → S → Type 0) (old : SessionValue
       let rest = subst (λ n. RestsBy old motion old.index n first.why) index a.why_is in
       let why_is : first.why ≡ second.why
       = rests-why old motion old.index last.index first.why rest
-      ∙ sym (rests-why old motion old.index last.index second.why b.why_is) in (
-        first.answer_is ∙ ap (λ word. answers.Moved (ending_of word)) why_is ∙ sym second.answer_is,
-        a.session ∙ ap (moved_to old) index ∙ sym b.session,
-      )
+      ∙ sym (rests-why old motion old.index last.index second.why b.why_is) in search (rules, arith)
 
 near-and-far : (old : SessionValue) (count oldest : ℕ) (new last : SessionValue) → IsBack old count new → IsTooOld old count oldest last → ⊥
 near-and-far old count oldest new last near far = choose far.older
@@ -159,18 +155,11 @@ module _ {S : Type 0} (took : S → Output → S → Type 0) (old : SessionValue
 told-once : (old : SessionValue) (found : Option (Result Command NoCommand)) (text other : List ℕ) (new last : SessionValue)
     → TellsOfCommand found old text new → TellsOfCommand found old other last → (text ≡ other) × (new ≡ last)
 told-once old None text other new last a b = (a.0 ∙ sym b.0, a.1 ∙ sym b.1)
-told-once old (Some asked) text other new last a b =
-    let same = obeyed-once _ _ tt asked a.answer b.answer new last tt tt a.obeyed b.obeyed in (
-      a.text_is ∙ ap (λ (s : SessionValue). answer_text s a.answer) same.1 ∙ ap (answer_text last) same.0 ∙ sym b.text_is,
-      same.1,
-    )
+told-once old (Some asked) text other new last a b = search (rules, arith, obeyed-once)
 
-pub tells-one-thing : TellsOneThing
-tells-one-thing [] old text other new last a b = (a.0 ∙ sym b.0, a.1 ∙ sym b.1)
-tells-one-thing (line ∷ more) old text other new last a b =
+pub tells_one_thing : TellsOneThing
+tells_one_thing [] old text other new last a b = (a.0 ∙ sym b.0, a.1 ∙ sym b.1)
+tells_one_thing (line ∷ more) old text other new last a b =
     let first = told-once old (command_of line) a.text_before b.text_before a.between b.between a.before b.before in
     let rest = subst (λ (s : SessionValue). TellsAll more s a.text_after new) first.1 a.after in
-    let then = tells-one-thing more b.between a.text_after b.text_after new last rest b.after in (
-      a.text_is ∙ ap (λ xs. xs ++ a.text_after) first.0 ∙ ap (λ xs. b.text_before ++ xs) then.0 ∙ sym b.text_is,
-      then.1,
-    )
+    let then = tells_one_thing more b.between a.text_after b.text_after new last rest b.after in search (rules, arith)

@@ -1,6 +1,5 @@
 -- What lines tell doesn't hang on the sink: it is said of the run alone.
-use Rattle.std.proofs.Common.{◌≡◌, ℕ, Option, None, Some, Result, Ok, Err, List, [], ◌∷◌, ◌++◌, refl, sym, ap, ◌∙◌, arith, rules}
-use Rattle.std.proofs.Common.{true, true≢false}
+use Rattle.std.proofs.Common.{◌≡◌, ℕ, Option, None, Some, Result, Ok, Err, List, [], ◌∷◌, ◌++◌, refl, ap, arith, rules, true}
 use Rattle.std.proofs.lemmas.List.Elements.{All-cons}
 use mathlib.Core.Logic.{inl, inr}
 use Rattle.pac_board.specs.Output.{Output}
@@ -65,12 +64,9 @@ module _ {S W : Type 0} (to : Giving S) (wrote : W → List ℕ → W → Type 0
       → Asks {A = A} to wrote balked found old (Ok done) new → LineTold found old new
   line-told done None old new skipped = search rules
   line-told done (Some asked) old new answered =
-      record {
-        text = answer_text new.session answered.answer;
-        tells = told to.took old.session asked old.sink answered.answer new.session new.sink answered.did;
-        takes = answered.told.takes;
-        later = λ failed. absurd (true≢false (sym failed ∙ answered.told.was_open));
-      }
+      let text_is = answer_text new.session answered.answer in
+      let tells_is = told to.took old.session asked old.sink answered.answer new.session new.sink answered.did in
+      grind (arith, told)
 
   -- all lines were answered
   pub record LinesTold (lines : List (List ℕ)) (old new : Scene S W) : Type 0 where
@@ -85,14 +81,10 @@ module _ {S W : Type 0} (to : Giving S) (wrote : W → List ℕ → W → Type 0
       let mid = obeyed.between in
       let first = line-told tt (command_of line) old mid obeyed.before in
       let rest = lines-told more done mid new obeyed.after in
-      record {
-        text = first.text ++ rest.text;
-        tells = told-then line more old.session mid.session new.session first.text rest.text first.tells rest.tells;
-        words = record {
-          takes = takes-joined first.takes rest.words.takes;
-          later = grind (arith, All-cons);
-        };
-      }
+      let text_is = first.text ++ rest.text in
+      let tells_is = told-then line more old.session mid.session new.session first.text rest.text first.tells rest.tells in
+      let takes_is = takes-joined first.takes rest.words.takes in
+      grind (arith, All-cons, takes-joined, told-then)
 
   -- at one of them the sink refused
   pub record LinesRefused (lines : List (List ℕ)) (old new : Scene S W) : Type 0 where
@@ -156,26 +148,22 @@ module _ {S W : Type 0} (to : Giving S) (wrote : W → List ℕ → W → Type 0
   line-untold None fault old new skipped = absurd skipped
   line-untold (Some asked) fault old new answered =
       let did = answered.did in
-      record {
-        text = answer_text new.session answered.answer;
-        tells = told to.took old.session asked old.sink answered.answer new.session new.sink did;
-        due = search rules;
-        refuses = answered.told;
-      }
+      let text_is = answer_text new.session answered.answer in
+      let tells_is = told to.took old.session asked old.sink answered.answer new.session new.sink did in
+      grind (arith, told)
 
   pub lines-untold : (lines : List (List ℕ)) (fault : WriteFault) (old new : Scene S W)
       → ObeysLines to wrote balked lines old (Err (faults.Text fault)) new → LinesUntold lines old fault new
   lines-untold [] fault old new obeyed = absurd obeyed
-  lines-untold (line ∷ more) fault old new (inl here) =
-      record {
-        before = [];
-        line = line;
-        after = more;
-        parts = refl;
-        mid = old;
-        obeyed = refl;
-        here = line-untold (command_of line) fault old new here;
-      }
+  lines-untold (line ∷ more) fault old new (inl here) = record {
+    before = [];
+    line = line;
+    after = more;
+    parts = refl;
+    mid = old;
+    obeyed = refl;
+    here = line-untold (command_of line) fault old new here;
+  }
   lines-untold (line ∷ more) fault old new (inr later) =
       let rest = lines-untold more fault later.between new later.after in
       record {

@@ -1,5 +1,5 @@
 -- A whole session: its lines, and then the run's end.
-use Rattle.std.proofs.Common.{◌≡◌, ℕ, Ok, Err, List, [], ◌++◌, ◌⊎◌, sym, subst, ◌∙◌, append_assoc, append-nil, arith}
+use Rattle.std.proofs.Common.{◌≡◌, ℕ, Ok, Err, List, [], ◌++◌, ◌⊎◌, sym, subst, ◌∙◌, append_assoc, append-nil, arith, rules}
 use mathlib.Core.List.{IsPrefix}
 use Rattle.pac_board.specs.Output.{Output}
 use Rattle.pac_board.specs.SinksLaws.{Giving}
@@ -84,37 +84,12 @@ module _ {S W : Type 0} (to : Giving S) (wrote : W → List ℕ → W → Type 0
   ended-early faults.Refused obeyed gave =
       let halt = lines-refused to wrote balked lines old mid obeyed in
       let told = lines-told to wrote balked halt.before tt old halt.mid halt.obeyed in
-      record {
-        before = halt.before;
-        after = halt.after;
-        parts = halt.parts;
-        between = halt.mid.session;
-        sink_between = halt.mid.sink;
-        told = told.text;
-        lines = told.tells;
-        text = subst (λ (file : Counted W). TookTold wrote halt.before old.text told.text file) (sym halt.text) told.words;
-        gave = lines-given to wrote balked halt.before (Ok tt) old halt.mid halt.obeyed;
-        refusal = halt.refusal;
-        in_all = gave;
-        among = among old.session mid.session gave.cut.taken gave.further gave.cut.parts;
-      }
+      let text_is = subst (λ (file : Counted W). TookTold wrote halt.before old.text told.text file) (sym halt.text) told.words in
+      let gave_is = lines-given to wrote balked halt.before (Ok tt) old halt.mid halt.obeyed in
+      let among_is = among old.session mid.session gave.cut.taken gave.further gave.cut.parts in
+      search (rules, arith, among, lines-given)
   ended-early (faults.Text fault) obeyed gave =
       let halt = lines-untold to wrote balked lines fault old mid obeyed in
       let told = lines-told to wrote balked halt.before tt old halt.mid halt.obeyed in
-      record {
-        before = halt.before;
-        line = halt.line;
-        after = halt.after;
-        parts = halt.parts;
-        between = halt.mid.session;
-        file_between = halt.mid.text;
-        told = told.text;
-        lines = told.tells;
-        text = told.words;
-        more = halt.here.text;
-        tells = halt.here.tells;
-        refuses = halt.here.refuses;
-        in_all = gave;
-        none_due = halt.here.due;
-        among = taken-among old.session mid.session gave.taken gave.further gave.parts;
-      }
+      let among_is = taken-among old.session mid.session gave.taken gave.further gave.parts in
+      search (rules, arith, among, taken-among)

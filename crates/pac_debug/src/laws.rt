@@ -9,11 +9,13 @@ use pac_board::Sink;
 use pac_out::Out;
 
 /// Lines, and where a session stands before them, determine what is told and where they leave the session.
+#[tactic(auto, using(crate::proofs::Sole::tells_one_thing))]
 pub fn one_thing_is_told()
     ensures { TellsOneThing }
 {}
 
 /// All lines tell something: each motion comes to rest, and each other command is answered.
+#[tactic(auto, using(crate::proofs::Resting::all_lines_tell))]
 pub fn something_is_told()
     ensures { AllLinesTell }
 {}

@@ -58,6 +58,7 @@ fn line_at(session: &Session, place: usize) -> HistoryLine
 }
 
 /// The last steps of a session, so many at most, the oldest first; and how many there are.
+#[tactic(auto, using(crate::proofs::Lasting::more_lasting))]
 pub(crate) fn last_steps(session: &Session, count: u16) -> ([HistoryLine; MOST_STEPS], usize)
     ensures exact { take result.1 result.0 ≡ last_steps session.now count }
     ensures within { result.1 ≤ length result.0 }

@@ -1,7 +1,7 @@
 -- By induction over the lines.
 use Rattle.pac_board.specs.SinksLaws.{by}
-use Rattle.pac_debug.proofs.GoingOn.{lines-go-on}
+use Rattle.pac_debug.proofs.GoingOn.{comes-to}
 use Rattle.pac_debug.proofs.laws.lines_go_on.Goals as goal
 
 pub returns : goal.returns
-returns g c = lines-go-on (by g.S.Sink.took g.S.Sink.refused) g.W.Out.took g.W.Out.refused
+returns g c = comes-to (by g.S.Sink.took g.S.Sink.refused) g.W.Out.took g.W.Out.refused

@@ -26,13 +26,11 @@ returns-in-Ok g c =
     = record { session = c.args.session; sink = c.args.sink.now; text = c.args.text.now } in
     let mid : Scene g.row.S.Denot g.row.W.Denot
     = record { session = c.commands.new.session; sink = c.commands.new.sink; text = c.commands.new.text } in
-    record {
-      left = c.in-Ok.ensures.left;
-      watched =
-          finished (by g.S.Sink.took g.S.Sink.refused) g.W.Out.took g.W.Out.refused (lines c.args.bytes.now) old mid
-          c.in_ok-commands.field-0 c.in_ok-commands.ensures.obeys c.in_ok-commands.ensures.given _ c.in-Ok.ensures.left _
-          c.in-Ok.ensures.finishes;
-    }
+    let watched_is =
+    finished (by g.S.Sink.took g.S.Sink.refused) g.W.Out.took g.W.Out.refused (lines c.args.bytes.now) old mid
+    c.in_ok-commands.field-0 c.in_ok-commands.ensures.obeys c.in_ok-commands.ensures.given _ c.in-Ok.ensures.left _
+    c.in-Ok.ensures.finishes in
+    grind (arith, finished)
 
 pub returns-in-Err : goal.returns-in-Err
 returns-in-Err g c =
@@ -40,10 +38,8 @@ returns-in-Err g c =
     = record { session = c.args.session; sink = c.args.sink.now; text = c.args.text.now } in
     let mid : Scene g.row.S.Denot g.row.W.Denot
     = record { session = c.commands.new.session; sink = c.commands.new.sink; text = c.commands.new.text } in
-    record {
-      left = c.in-Err.ensures.left;
-      watched =
-          held-up (by g.S.Sink.took g.S.Sink.refused) g.W.Out.took g.W.Out.refused (lines c.args.bytes.now) old mid
-          c.in_ok-commands.field-0 c.in_ok-commands.ensures.obeys c.in_ok-commands.ensures.given c.in-Err.ensures.left _
-          c.in-Err.ensures.finishes;
-    }
+    let watched_is =
+    held-up (by g.S.Sink.took g.S.Sink.refused) g.W.Out.took g.W.Out.refused (lines c.args.bytes.now) old mid
+    c.in_ok-commands.field-0 c.in_ok-commands.ensures.obeys c.in_ok-commands.ensures.given c.in-Err.ensures.left _
+    c.in-Err.ensures.finishes in
+    grind (arith, held-up)
