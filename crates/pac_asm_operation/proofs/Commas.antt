@@ -33,3 +33,5 @@ pub first-part : (tokens : List Token) (at : ℕ) → at ≡ position_or_len is_
     slice_split is_comma (views tokens) ≡
     views (take at tokens) ∷ slice_split is_comma (views (take (length tokens - (at + 1)) (drop (at + 1) tokens)))
 first-part tokens at is below = grind (arith, drop-map, length-map, rest-taken, slice_split_first, take-map)
+
+pub ruleset parts = (first-part, whole-part)

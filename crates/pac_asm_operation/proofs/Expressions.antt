@@ -189,3 +189,5 @@ answer-is f found t answer is stands = search rules
 
 pub answer-stands : {A : Type 0} (f : Tree → A) (found : Option Tree) (t : Tree) → None ≡ option_map f found → found ≡ Some t → ⊥
 answer-stands f found t is stands = search rules
+
+pub ruleset displacements = (displaced-found, is-tree)

@@ -189,3 +189,5 @@ instruction-sized family size next operands rows = grind (arith, sized)
 
 pub row-below : (p : ℕ → Bool) (rows : List ℕ) (n : ℕ) → Some n ≡ find p rows → All (λ m. m < row_count) rows → n < row_count
 row-below p rows n found below = (found-at p (λ m. m < row_count) rows n (sym found) below).holds
+
+pub ruleset readings = (read-none, read-unfit, row-below, size-kept)

@@ -45,7 +45,7 @@ impl<'t, 'a> Operation<'t, 'a> {
     ghost use Rattle.pac_asm_operation.specs.Kept.{seen_operation};
 
     /// The operation that a name is with the tokens after it, if it is one.
-    #[tactic(auto, unfolding(crate::specs::Operations::operation_of))]
+    #[tactic(auto, using(crate::proofs::Found::readings), unfolding(crate::specs::Operations::operation_of))]
     pub fn read(word: &'t [u8], tokens: &'t [Token<'a>]) -> Option<Self>
         ensures { option_map seen_operation result ≡ operation_of word.now (views tokens.now) }
     {

@@ -135,6 +135,7 @@ fn after_name<'t, 'a>(name: Name, tokens: &'t [Token<'a>]) -> Option<Operand<&'t
 }
 
 /// A name in parentheses, with a displacement, which begins with its sign, or without one.
+#[tactic(auto, using(crate::proofs::Expressions::displacements))]
 fn displaced<'t, 'a>(name: Name, tokens: &'t [Token<'a>]) -> Option<Operand<&'t [Token<'a>]>>
     ensures { FindsOperand result (indirect_operand name (views tokens.now)) }
 {

@@ -31,6 +31,7 @@ fn comma_place(tokens: &[Token<'_>]) -> usize
 }
 
 /// The tokens before the first comma, and those after it if there is one.
+#[tactic(auto, using(crate::proofs::Commas::parts))]
 pub fn next_part<'t, 'a>(tokens: &'t [Token<'a>]) -> (&'t [Token<'a>], Option<&'t [Token<'a>]>)
     ensures parts { slice_split is_comma (views tokens.now)
         ≡ views result.0.now ∷ parts_after result.1 }
