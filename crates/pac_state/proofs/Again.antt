@@ -1,5 +1,5 @@
 -- A state that is read back out of its text.
-use Rattle.std.proofs.Common.{◌≡◌, ℕ, ◌<◌, ◌^◌, ◌==◌, Bool, List, rules, refl, ap, ◌∙◌, arith}
+use Rattle.std.proofs.Common.{◌≡◌, ℕ, ℤ, ◌<◌, ◌^◌, ◌==◌, Bool, List, Option, rules, refl, ap, ◌∙◌, arith}
 use Rattle.std.proofs.lemmas.Nat.{from_le_bytes-to_le_bytes_2, from_le_bytes-to_le_bytes_4, from_le_bytes-to_le_bytes_8}
 use Rattle.std.specs.Int.{w32, w64, from_le_bytes}
 use Rattle.pac_board.specs.InterruptMode.{InterruptMode}
@@ -82,6 +82,9 @@ memory-again version digest bytes state pieces held =
     (digit-again state.now.board.memory.latched.request)
 
 -- ---- what is due
+
+abbrev waiting : Option ℤ → Bool → Due
+waiting sample picture = record { sample = sample; picture = picture }
 
 due-again : (due : Due) → FitsSample due.sample → due_of (text.due_bytes due) ≡ due
 unfolding text.due_bytes

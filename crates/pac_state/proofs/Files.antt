@@ -163,16 +163,17 @@ fault-of-file digest bytes fault told = grind (arith, never-memory)
 pub accepts : (set : Parts) (bytes : List ℕ) → ((i : ℕ) → get_or bytes i 0 < 256) → (result : Result BoardValue LoadFault)
     → ReadsFile set bytes result → AcceptsFile set bytes result
 unfolding AreBytes
-accepts set bytes fits (Ok board) answers = record {
-  file = record {
-    version = version_in bytes;
-    known = known-of (digest_of set) bytes answers.sound;
-    state = state_in bytes;
-    is_state = is-state bytes fits (size-of (digest_of set) bytes answers.sound) answers.text.in_range;
-    text = sym (text-of set bytes fits answers.sound answers.text.written);
-  };
-  board = λ file. answers.board ∙ text-board set bytes file;
-}
+accepts set bytes fits (Ok board) answers =
+    record {
+      file = record {
+        version = version_in bytes;
+        known = known-of (digest_of set) bytes answers.sound;
+        state = state_in bytes;
+        is_state = is-state bytes fits (size-of (digest_of set) bytes answers.sound) answers.text.in_range;
+        text = sym (text-of set bytes fits answers.sound answers.text.written);
+      };
+      board = λ file. answers.board ∙ text-board set bytes file;
+    }
 accepts set bytes fits (Err fault) answers = λ (file : IsFile set bytes).
     let sound : load_fault (digest_of set) bytes ≡ None =
     ap (load_fault (digest_of set)) file.text ∙ text-sound file.version set file.state file.known file.is_state in

@@ -91,7 +91,6 @@ fn is_of_another_version(bytes: &[u8]) -> bool
 }
 
 /// The first of V1, V2, V3, V5 and V6 that holds of a file, for a ROM set of this digest.
-#[tactic(auto, unfolding(crate::specs::Saved::load_fault))]
 pub(crate) fn fault_of(digest: &[u8; 20], bytes: &[u8]) -> Option<LoadFault>
     ensures { result ≡ saved.load_fault digest.now bytes.now }
 {

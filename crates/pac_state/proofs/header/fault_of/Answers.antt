@@ -19,3 +19,15 @@ returns-then-is_of_another_version c = rw (sym c.if-not-begins.ensures, sym c.if
 pub returns-then-bytes-ne-FILE_SIZE : goal.returns-then-bytes-ne-FILE_SIZE
 unfolding load_fault
 returns-then-bytes-ne-FILE_SIZE c = grind (arith, differs, eqb_tells)
+
+pub returns-then-not-is_sealed : goal.returns-then-not-is_sealed
+unfolding load_fault
+returns-then-not-is_sealed c = search rules
+
+pub returns-then-not-is_of : goal.returns-then-not-is_of
+unfolding load_fault
+returns-then-not-is_of c = search rules
+
+pub returns-else-not-is_of : goal.returns-else-not-is_of
+unfolding load_fault
+returns-else-not-is_of c = search rules
