@@ -20,7 +20,7 @@ use Rattle.pac_board.specs.CallsLaws.{once_at, IsOfferRefused}
 use Rattle.pac_board.specs.Calls.{next_from_moment}
 use Rattle.pac_board.specs.Turns.{way_at, board_after_walk, HasGone, IsWayRefused}
 use Rattle.pac_machine.specs.Bursts.{stretch_end}
-use Rattle.pac_machine.specs.BurstsProofs.{line_end, outputs_of_step}
+use Rattle.pac_machine.specs.BurstsProofs.{outputs_of_step}
 use Rattle.pac_board.specs.Stretches.{stretch_of, batch_of, IsStretched, HasBatch, IsHeardUntil, IsLastTurn}
 use Rattle.pac_board.specs.Stretches.{HasStretched, IsStretchRefused}
 use Rattle.pac_board.specs.TurnsProofs.{IsTurn}
@@ -46,9 +46,6 @@ outputs-same (Ends stop) = refl
 
 module _ {old : BoardValue} {near : ℕ} {stop : Option Stop} {given : List ℤ} {mid : BoardValue} (batch : HasBatch old near stop given mid)
   where
-    abbrev batch_until : ℕ
-    batch_until = line_end near old.state.now.time
-
     abbrev next : Moment BoardView → Next BoardView
     next = step (by_view old.set)
 
@@ -62,18 +59,18 @@ module _ {old : BoardValue} {near : ℕ} {stop : Option Stop} {given : List ℤ}
     timely now = step-timely (by_view old.set) now
 
     last-is : batch_of old near (suc batch.tries) ≡ walk_after_step before_last last_next
-    last-is = going-steps next batch_until before_last batch.going
+    last-is = going-steps next near before_last batch.going
 
     last-later : old.state.now.steps ≤ before_last.now.steps
-    last-later = (walked-after next batch_until timely old.state.now batch.tries).steps
+    last-later = (walked-after next near timely old.state.now batch.tries).steps
 
     last-outputs : due_outputs mid ≡ outputs_in last_next
     last-outputs = batch.outputs ∙ outputs-same last_next
 
     heard-before : (limit : ℕ) → near ≤ limit → IsHeardUntil old limit given (board_after_walk old before_last)
     heard-before limit less =
-        let on = on-the-way next batch_until limit old.state.now batch.tries (omega arith) in
-        let there = going-is-early batch_until before_last batch.going in
+        let on = on-the-way next near limit old.state.now batch.tries (omega arith) in
+        let there = going-is-early near before_last batch.going in
         record {
           steps = on.0;
           board = ap (board_after_walk old) on.1;
@@ -84,11 +81,11 @@ module _ {old : BoardValue} {near : ℕ} {stop : Option Stop} {given : List ℤ}
 
     -- ---- a stretch of one step
 
-    stretch-whole : (limit : ℕ) → batch_until ≡ stretch_end limit old.state.now.time → given ≡ []
-        → has_ended batch_until (batch_of old near (suc batch.tries)) ≡ true → IsStretched old limit stop mid
+    stretch-whole : (limit : ℕ) → near ≡ stretch_end limit old.state.now.time → given ≡ []
+        → has_ended near (batch_of old near (suc batch.tries)) ≡ true → IsStretched old limit stop mid
     stretch-whole limit until_is none over =
         let whole : batch_of old near (suc batch.tries) ≡ stretch_of old limit
-        = ended-whole next batch_until timely old.state.now (suc batch.tries) over
+        = ended-whole next near timely old.state.now (suc batch.tries) over
         ∙ ap (λ (until : ℕ). walk_to next until old.state.now) until_is in
         let silent : before_last.outputs ≡ [] = batch.before ∙ ap (map Sound) none in
         record {
@@ -100,17 +97,17 @@ module _ {old : BoardValue} {near : ℕ} {stop : Option Stop} {given : List ℤ}
         }
 
     -- a step ends what has less than 4 T-states left
-    step-ends : (w : Walk BoardView) (h : Next BoardView) → IsTimely w.now h → batch_until ≤ w.now.time + 1
-        → has_ended batch_until (walk_after_step w h) ≡ true
+    step-ends : (w : Walk BoardView) (h : Next BoardView) → IsTimely w.now h → near ≤ w.now.time + 1
+        → has_ended near (walk_after_step w h) ≡ true
     step-ends w (Goes now outputs kind) times soon =
-        let longer = times.0 in late-has-ended batch_until (walk_after_step w (Goes now outputs kind)) (omega arith)
-    step-ends w (Ends stop) times soon = stopped-has-ended batch_until (walk_after_step w (Ends stop)) stop refl
+        let longer = times.0 in late-has-ended near (walk_after_step w (Goes now outputs kind)) (omega arith)
+    step-ends w (Ends stop) times soon = stopped-has-ended near (walk_after_step w (Ends stop)) stop refl
 
     pub single-goes : near ≡ old.state.now.time + 1 → given ≡ [] → IsStretched old (old.state.now.time + 1) stop mid
     single-goes near_is none =
-        let so_far = (walked-after next batch_until timely old.state.now batch.tries).time in
+        let so_far = (walked-after next near timely old.state.now batch.tries).time in
         stretch-whole (old.state.now.time + 1) (omega arith) none
-        (ap (has_ended batch_until) last-is ∙ step-ends before_last last_next (timely before_last.now) (omega arith))
+        (ap (has_ended near) last-is ∙ step-ends before_last last_next (timely before_last.now) (omega arith))
 
 -- ---- a turn, by its answer
 

@@ -1,25 +1,22 @@
 -- What a board's stretches tell, one after another.
-use Rattle.std.proofs.Common.{◌≡◌, ℕ, List, Option, subst, arith}
+use Rattle.std.proofs.Common.{◌≡◌, ℕ, List, Option, subst}
 use Rattle.pac_map.specs.RomParts.{Parts}
 use Rattle.pac_board_model.specs.BoardView.{BoardView}
 use Rattle.pac_board_model.specs.Step.{Moment, step}
 use Rattle.pac_board_model.specs.Trace.{by_view}
 use Rattle.pac_machine.specs.declared.trail.PastStep.{PastStep}
-use Rattle.pac_machine.specs.BurstsProofs.{line_end}
 use Rattle.pac_machine.specs.StandingProofs.{BoardStanding}
 use Rattle.pac_machine.specs.Trails.{IsNoted}
-use Rattle.pac_machine.proofs.Noted.{noted-sooner, noted-more}
+use Rattle.pac_machine.proofs.Noted.{noted-more}
 use Rattle.pac_board.specs.State.{BoardValue}
 use Rattle.pac_board.specs.Stretches.{IsTold}
 
 pub board-noted : (old : BoardValue) (machine : BoardStanding) (after : Moment BoardView) (limit : ℕ)
     (told more : Option (List PastStep)) → machine ≡ record { set = old.set; now = old.state.now }
-    → IsNoted (step (by_view machine.set)) (line_end limit machine.now.time) machine.now after told more
+    → IsNoted (step (by_view machine.set)) limit machine.now after told more
     → IsNoted (step (by_view old.set)) limit old.state.now after told more
 board-noted old machine after limit told more is stretched =
-    let here = subst
-    (λ (m : BoardStanding). IsNoted (step (by_view m.set)) (line_end limit m.now.time) m.now after told more) is stretched in
-    noted-sooner (step (by_view old.set)) here (omega arith)
+    subst (λ (m : BoardStanding). IsNoted (step (by_view m.set)) limit m.now after told more) is stretched
 
 -- a stretch after others
 pub told-more : (old mid new : BoardValue) (limit : ℕ) (told between after : Option (List PastStep)) → mid.set ≡ old.set

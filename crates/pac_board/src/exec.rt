@@ -1,6 +1,7 @@
 //! The calls that make steps, and offer what they give to a sink.
 
-ghost use Rattle.std.specs.Prelude.{◌≡◌, ◌<◌, ◌≤◌, ◌+◌, ◌-◌, ◌^◌, [], None, is_some, take};
+ghost use Rattle.std.specs.Prelude.{◌≡◌, ◌<◌, ◌≤◌, ◌+◌, ◌-◌, ◌*◌, ◌/◌, ◌^◌, [], None};
+ghost use Rattle.std.specs.Prelude.{is_some, min, take};
 ghost use Rattle.pac_machine.specs.Standing.{latest, nothing_due};
 ghost use Rattle.pac_board.specs.State.{due_outputs};
 ghost use Rattle.pac_board.specs.Calls.{with_due};
@@ -13,14 +14,14 @@ ghost use Rattle.pac_board.specs.Turns.{GoesTo};
 ghost use Rattle.pac_board.specs.Roads.{GoesUntil};
 ghost use Rattle.pac_board.specs.RoadsProofs.{BoardPasses, BoardWatched};
 ghost use Rattle.pac_board.specs.Stretches.{IsStretched, HasBatch, Stretches, IsTold};
-ghost use Rattle.pac_machine.specs.Bursts.{next_sample};
+ghost use Rattle.pac_board_model.specs.Step.{sample_ticks};
 
 use crate::board::Board;
 use crate::fault::{Fault, Idle};
 use crate::offer::offer;
 use crate::sink::{Refused, Sink};
 use pac_cpu::{Once, StepKind, Stop};
-use pac_machine::{Due, MOST_ASKED, SAMPLE_TICKS, Stops, Trail, Unwatched, Watch};
+use pac_machine::{BATCH_SAMPLES, Due, MOST_ASKED, SAMPLE_TICKS, Stops, Trail, Unwatched, Watch};
 use std::mem::forget;
 
 /// The time, in T-states, from which on no step is begun (this profile).
@@ -146,14 +147,14 @@ impl Board {
         }
     }
 
-    /// Does steps of a board with nothing due up to the end of the scan's line, to a limit before it, or to a stop, or some of these; but the
-    /// first, none that begins where it is to stop; and none after one that did something at a watched address. Answers whether a stop came,
-    /// how many samples those before the last gave, and what the last gives, which isn't due yet. Each step is told.
+    /// Does steps of a board with nothing due up to a limit, or to a stop, or some of these; but the first, none that begins where it is to
+    /// stop; and none after one that did something at a watched address. Answers whether a stop came, how many samples those before the last
+    /// gave, and what the last gives, which isn't due yet. Each step is told.
     #[inline(always)]
     fn make_stretch<W: Watch>(
         &mut self,
         limit: u64,
-        samples: &mut [i16; 5],
+        samples: &mut [i16; BATCH_SAMPLES],
         stops: &Stops<'_>,
         told: &mut Trail,
         watch: &mut W,
@@ -172,25 +173,25 @@ impl Board {
         ensures marks { W.marks watch.new ≡ W.marks watch.old }
         ensures nothing { self.new.state.due ≡ nothing_due }
         ensures stopped { result.0 ≡ is_some met.new }
-        ensures count { result.1 ≤ 5 }
-        ensures single { limit ≤ next_sample self.old.state.now.time → result.1 ≡ 0 }
+        ensures count { result.1 ≤ 96 }
+        ensures before { sample_ticks * (self.old.state.now.time / sample_ticks + result.1)
+            < limit }
     {
         self.machine
             .stretch(limit, samples, stops, told, watch, met)
     }
 
-    /// A limit for a sink that has room for so many samples at once: where a line's don't fit, the next sample's moment at the latest.
+    /// A limit for a sink that has room for so many samples at once: the moment of the one after those at the latest.
     #[inline(always)]
     fn limit_for(&self, limit: u64, room: usize) -> u64
         requires early { self.now.state.now.time < limit }
         ensures later { self.now.state.now.time < result }
         ensures within { result ≤ limit }
-        ensures single { room < 5 → result ≤ next_sample self.now.state.now.time }
+        ensures room { result ≤ sample_ticks
+            * (self.now.state.now.time / sample_ticks + min room 96 + 1) }
     {
-        if room >= 5 {
-            return limit;
-        }
-        limit.min(SAMPLE_TICKS * (self.time() / SAMPLE_TICKS + 1))
+        let many = self.time() / SAMPLE_TICKS + room.min(BATCH_SAMPLES) as u64;
+        limit.min(SAMPLE_TICKS * (many + 1))
     }
 
     /// Does the next step of a board with nothing due, and what it gives is due then. It isn't told.
@@ -205,11 +206,12 @@ impl Board {
         self.due = self.machine.make_step(met);
     }
 
-    /// Does steps, and offers what they give: the samples of those before the last at once, where the sink has room for a line's.
+    /// Does steps, and offers what they give: the samples of those before the last at once, as many as the sink has room for.
     #[inline(always)]
     fn stretch<S: Sink, W: Watch>(
         &mut self,
         limit: u64,
+        samples: &mut [i16; BATCH_SAMPLES],
         stops: &Stops<'_>,
         told: &mut Trail,
         watch: &mut W,
@@ -227,15 +229,9 @@ impl Board {
         ensures marks { W.marks watch.new ≡ W.marks watch.old }
     {
         let mut met = None;
-        let mut samples = [0; 5];
         let near = self.limit_for(limit, S::room(sink));
         let (stopped, count, given) = self.make_stretch(
-            near,
-            &mut samples,
-            stops,
-            told,
-            watch,
-            &mut met,
+            near, samples, stops, told, watch, &mut met,
         );
         sink.samples(&samples[..count]);
         self.give(given, sink)?;
@@ -266,8 +262,9 @@ impl Board {
         ensures passes { BoardPasses stops.now self.old self.new }
         ensures watched { BoardWatched (W.marks watch.old) self.old self.new (W.met watch.new) }
     {
+        let mut samples = [0; BATCH_SAMPLES];
         while self.time() < limit {
-            if let Some(met) = self.stretch(limit, stops, told, watch, sink)? {
+            if let Some(met) = self.stretch(limit, &mut samples, stops, told, watch, sink)? {
                 return Ok(Some(met));
             }
             if watch.has_met() {

@@ -13,12 +13,12 @@ impl Sink for Silent {
 
     ghost refused = { NeverRefuses };
 
-    ghost room_for = { λ _. 5 };
+    ghost room_for = { λ _. 96 };
 
-    /// For all of a line.
+    /// For all that a stretch gives.
     #[inline]
     fn room(&self) -> usize {
-        5
+        96
     }
 
     /// Takes samples.

@@ -5,7 +5,7 @@ pub mod Recomposed
 pub mod Bursts
 pub mod Batches
 pub mod NextKinds
-pub mod Waits
+pub mod Rests
 pub mod Trails
 pub mod Notes
 pub mod Noted

@@ -1,21 +1,23 @@
 -- Lines of the picture that are composed again, from the top.
-use Rattle.std.proofs.Common.{◌≡◌, ◌<◌, ℕ, suc, ◌+◌, ◌-◌, List, [], ◌∷◌, ◌++◌, length, set, drop, refl, sym, ap, ◌∙◌, arith, append_assoc}
+use Rattle.std.proofs.Common.{◌≡◌, ◌<◌, ◌≤◌, ℕ, zero, suc, ◌+◌, ◌-◌, List, [], ◌∷◌, ◌++◌, length, set, drop, refl, sym, ap, ◌∙◌}
+use Rattle.std.proofs.Common.{arith, append_assoc}
 use Rattle.std.proofs.lemmas.List.{drop-set, drop-set-add, set-append_right}
 use Rattle.pac_cpu.specs.Tabulate.{tabulate}
 use Rattle.pac_cpu.proofs.Tabulated.{length-tabulate}
-use Rattle.pac_map.specs.Entry.{Line}
+use Rattle.std.specs.Prelude.{slice_set}
 use Rattle.pac_picture.specs.Picture.{picture_line}
+use Rattle.pac_picture.specs.PictureProofs.{lines_composed}
 use Rattle.pac_board_model.specs.BoardView.{video_roms, video_memory}
 use Rattle.pac_machine.specs.StandingProofs.{BoardStanding}
+use Rattle.pac_machine.specs.BurstsProofs.{standing_composed}
 use Rattle.pac_machine.specs.Standing.{recomposed_view}
-use Rattle.pac_machine.specs.Events.{standing_after_entry}
 
 -- none yet, and one more
-pub none-yet : {A : Type 0} (value : ℕ → A) (lines : List A) → lines ≡ tabulate 0 value ++ drop 0 lines
+none-yet : {A : Type 0} (value : ℕ → A) (lines : List A) → lines ≡ tabulate 0 value ++ drop 0 lines
 unfolding tabulate
 none-yet value lines = refl
 
-pub one-more : {A : Type 0} (value : ℕ → A) (lines : List A) (y : ℕ) → y < length lines →
+one-more : {A : Type 0} (value : ℕ → A) (lines : List A) (y : ℕ) → y < length lines →
     set (tabulate y value ++ drop y lines) y (value y) ≡ tabulate (y + 1) value ++ drop (y + 1) lines
 unfolding tabulate
 one-more value lines y inside =
@@ -34,20 +36,28 @@ one-more value lines y inside =
     rw next (sym (append_assoc before (value y ∷ []) (drop (suc y) lines))) in
     split ∙ put ∙ joined
 
--- what stands where so many lines are composed
-abbrev pub composed_to : BoardStanding → ℕ → BoardStanding
-composed_to old count = record { set = old.set; now = record old.now { board = recomposed_view old.set old.now.board count } }
-
 abbrev with_lines : BoardStanding → List (List ℕ) → BoardStanding
 with_lines old lines = record { set = old.set; now = record old.now { board = record old.now.board { lines = lines } } }
 
 abbrev line_in : BoardStanding → ℕ → List ℕ
 line_in old = picture_line (video_roms old.set) (video_memory old.now.board.memory)
 
-pub begins : (old : BoardStanding) → old ≡ composed_to old 0
-begins old = ap (with_lines old) (none-yet (line_in old) old.now.board.lines)
+-- the first ones
+from-the-top : (old : BoardStanding) (count : ℕ) → count ≤ length old.now.board.lines
+    → lines_composed (video_roms old.set) (video_memory old.now.board.memory) old.now.board.lines zero count
+    ≡ tabulate count (line_in old) ++ drop count old.now.board.lines
+from-the-top old zero fits = none-yet (line_in old) old.now.board.lines
+from-the-top old (suc count) fits =
+    let lines = old.now.board.lines in
+    let here : zero + count ≡ count = omega arith in
+    let next : count + 1 ≡ suc count = omega arith in
+    ap (λ (at : ℕ). slice_set (lines_composed (video_roms old.set) (video_memory old.now.board.memory) lines zero count) at
+    (line_in old at)) here
+    ∙ ap (λ (lines : List (List ℕ)). slice_set lines count (line_in old count)) (from-the-top old count (omega (arith, fits)))
+    ∙ one-more (line_in old) lines count (omega (arith, fits))
+    ∙ ap (λ (n : ℕ). tabulate n (line_in old) ++ drop n lines) next
 
-pub goes-on : (old now new : BoardStanding) (y : ℕ) → y < length old.now.board.lines → now ≡ composed_to old y →
-    new ≡ standing_after_entry now (Line 0 y) → new ≡ composed_to old (y + 1)
-goes-on old now new y inside so_far composes =
-    composes ∙ rw so_far (ap (with_lines old) (one-more (line_in old) old.now.board.lines y inside))
+pub recomposed : (old : BoardStanding) (count : ℕ) → count ≤ length old.now.board.lines
+    → standing_composed old zero count
+    ≡ record { set = old.set; now = record old.now { board = recomposed_view old.set old.now.board count } }
+recomposed old count fits = ap (with_lines old) (from-the-top old count fits)

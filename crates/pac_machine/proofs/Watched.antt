@@ -1,11 +1,11 @@
 -- What steps do at addresses that are watched: the writes of a step over a bus that looks at them, its reads, and steps one after another.
-use Rattle.std.proofs.Common.{◌≡◌, ℕ, zero, suc, ◌+◌, ◌-◌, ◌*◌, ◌<◌, ◌≤◌, nat_lt, nat_le, Bool, true, false, ◌&&◌, not, is_some, cond}
+use Rattle.std.proofs.Common.{◌≡◌, ℕ, suc, ◌+◌, ◌-◌, ◌<◌, ◌≤◌, nat_lt, nat_le, Bool, true, false, ◌&&◌, not, is_some, cond}
 use Rattle.std.proofs.Common.{List, [], ◌∷◌, ◌++◌, Option, None, Some, refl, sym, ap, subst, ◌∙◌, arith}
 use Rattle.std.proofs.lemmas.Bool.Decides.{nat_tests}
 use Rattle.pac_cpu.specs.Action.{Action, Write, Output}
 use Rattle.pac_cpu.specs.ActionLaws.{bus_after_actions}
 use Rattle.pac_cpu.specs.Regs.{Regs}
-use Rattle.pac_cpu.specs.Step.{Surroundings, CpuStep, Steps, Stops, cpu_step, halted_step}
+use Rattle.pac_cpu.specs.Step.{Surroundings, CpuStep, Steps, Stops, cpu_step}
 use Rattle.pac_cpu.specs.StepReads.{reads_in}
 use Rattle.pac_cpu.specs.StepLaws.{surroundings_of, once_of_step}
 use Rattle.pac_cpu.specs.StepProofs.{DoesCpuStep, actions_of}
@@ -24,15 +24,14 @@ use Rattle.pac_machine.specs.declared.watch.WatchedBus.{WatchedBus}
 use Rattle.pac_machine.specs.declared.watch.Access.{Access}
 use Rattle.pac_machine.specs.declared.watch.Access.TheVariants as access
 use Rattle.pac_machine.specs.StandingProofs.{BoardStanding}
-use Rattle.pac_machine.specs.BurstsProofs.{eventless_step, BurstsQuietly, is_waiting, next_line, line_end, burst_at}
+use Rattle.pac_machine.specs.BurstsProofs.{eventless_step, BurstsQuietly, next_line, burst_at}
 use Rattle.pac_machine.specs.Events.{Acts, part_of}
 use Rattle.pac_machine.specs.Trails.{IsNoted, stepped}
 use Rattle.pac_machine.specs.Watches.{first_of, first_read, first_write, watched_in, watched_at, watches_writes, IsWatched}
-use Rattle.pac_machine.specs.WatchesProofs.{looked_at, met_after, watched_byte_at, watched_input_at, watched_after_action}
+use Rattle.pac_machine.specs.WatchesProofs.{watched_byte_at, watched_input_at, watched_after_action}
 use Rattle.pac_machine.proofs.Batches.{surroundings-voiced, voiced_now, voices_after}
-use Rattle.pac_machine.proofs.Noted.{stepped-joined, waits-on, burst-within, told-at}
+use Rattle.pac_machine.proofs.Noted.{stepped-joined, burst-within, told-at}
 use Rattle.pac_machine.proofs.Processor.{surroundings-agree, board_of}
-use Rattle.pac_machine.proofs.Waits.{halted-part, waiting-halted}
 
 pub none-met : {A : Type 0} (met : Option A) → is_some met ≡ false → met ≡ None
 none-met None none = refl
@@ -266,39 +265,6 @@ module _ (set : Parts) (marks : Option (List ℕ)) (next : Moment BoardView → 
           let past : one.count ≤ n = grind (arith, nat_tests) in
           subst (λ (m : Moment BoardView). watched_at set marks m ≡ met) (there n past) (more.last (n - one.count) (omega arith))
 
--- ---- halted steps in one go
-
-pub waits-watched : (old : BoardStanding) (until n : ℕ) (marks : Option (List ℕ)) → is_waiting old ≡ true
-    → old.now.time + 4 * n < until + 4
-    → IsWatched old.set marks (eventless_step (by_view old.set)) old.now (old.now.steps + n) None
-waits-watched old until n marks waiting soon = record {
-  before = λ m few. quiet m (omega arith);
-  last = λ m same. quiet m (omega arith);
-  none = λ few. refl;
-}
-  where
-    facts : (old.now.regs.halted ≡ true) × ((old.now.regs.iff1 && is_some ((by_view old.set).request old.now.board)) ≡ false)
-    facts = waiting-halted old.now.regs.halted (old.now.regs.iff1 && is_some ((by_view old.set).request old.now.board)) waiting
-
-    seen : Surroundings
-    seen = surroundings (by_view old.set) old.now.board
-
-    still : (regs : Regs) → regs.halted ≡ true → (regs.iff1 && is_some ((by_view old.set).request old.now.board)) ≡ false
-        → watched_in seen marks regs ((by_view old.set).request old.now.board)
-        (cpu_step seen regs ((by_view old.set).request old.now.board)) ≡ None
-    still regs halted none =
-        ap (watched_in seen marks regs ((by_view old.set).request old.now.board))
-        (halted-part seen regs ((by_view old.set).request old.now.board) halted none)
-
-    quiet : (m : ℕ) → m < n → watched_at old.set marks (stepped (eventless_step (by_view old.set)) old.now m) ≡ None
-    quiet zero less = still old.now.regs facts.0 facts.1
-    quiet (suc m) less =
-        let on = waits-on old until None facts.0 facts.1 (suc m) (omega arith) in
-        let so_many = on.steps in
-        let same : on.count ≡ suc m = omega arith in
-        subst (λ (x : Moment BoardView). watched_at old.set marks x ≡ None)
-        (on.now ∙ ap (stepped (eventless_step (by_view old.set)) old.now) same) (still _ facts.0 facts.1)
-
 -- ---- a stretch
 
 watched-voiced : (set : Parts) (marks : Option (List ℕ)) (all : Accumulators) (now : Moment BoardView)
@@ -307,12 +273,12 @@ watched-voiced set marks all now = λ i.
     let seen = surroundings-voiced set all now.board i in
     watched_in seen marks now.regs ((by_view set).request now.board) (cpu_step seen now.regs ((by_view set).request now.board))
 
-pub stretch-watched : (old mid : BoardStanding) (limit begun steps : ℕ) (stop : Option Stop) (marks : Option (List ℕ))
-    (met : Option Access) (told after : Option (List PastStep)) → BurstsQuietly old (line_end limit old.now.time) mid stop begun
-    → IsNoted (eventless_step (by_view old.set)) (line_end limit old.now.time) old.now mid.now told after
+pub stretch-watched : (old mid : BoardStanding) (until begun steps : ℕ) (stop : Option Stop) (marks : Option (List ℕ))
+    (met : Option Access) (told after : Option (List PastStep)) → until ≤ next_line old.now.time → BurstsQuietly old until mid stop begun
+    → IsNoted (eventless_step (by_view old.set)) until old.now mid.now told after
     → IsWatched old.set marks (eventless_step (by_view old.set)) old.now mid.now.steps met → steps ≡ mid.now.steps
     → IsWatched old.set marks (step (by_view old.set)) old.now steps met
-stretch-watched old mid limit begun steps stop marks met told after burst bare watched same = record {
+stretch-watched old mid until begun steps stop marks met told after near burst bare watched same = record {
   before = λ n few. alike n (omega arith) ∙ watched.before n (omega arith);
   last = λ n few. alike n (omega arith) ∙ watched.last n (omega arith);
   none = λ few. watched.none (omega arith);
@@ -322,10 +288,9 @@ stretch-watched old mid limit begun steps stop marks met told after burst bare w
         → watched_at old.set marks (stepped (step (by_view old.set)) old.now n)
         ≡ watched_at old.set marks (stepped (eventless_step (by_view old.set)) old.now n)
     alike n few =
-        let near : line_end limit old.now.time ≤ next_line old.now.time = omega arith in
-        let within = burst-within old mid (line_end limit old.now.time) begun stop told after near burst bare in
+        let within = burst-within old mid until begun stop told after near burst bare in
         let so_many = bare.steps in
-        let there = told-at old (line_end limit old.now.time) near burst.tries burst.going burst.quiet n (omega arith) in
+        let there = told-at old until near burst.tries burst.going burst.quiet n (omega arith) in
         ap (watched_at old.set marks) (sym there.whole ∙ there.laid.now)
-        ∙ watched-voiced old.set marks (voices_after old (line_end limit old.now.time) near there.laid.count)
-        (burst_at old (line_end limit old.now.time) n).now ∙ ap (watched_at old.set marks) there.bare
+        ∙ watched-voiced old.set marks (voices_after old until near there.laid.count) (burst_at old until n).now
+        ∙ ap (watched_at old.set marks) there.bare

@@ -8,7 +8,7 @@ ghost use Rattle.pac_machine.specs.Fields.{moment_of, state_of, AreBoardFields};
 
 use crate::due::Due;
 use crate::machine::Machine;
-use crate::timing::{FRAME_TICKS, HIDDEN_LINES, LINE_TICKS};
+use crate::timing::passed_lines;
 use pac_cpu::{Cpu, Regs};
 use pac_map::Memory;
 use pac_picture::{RawLines, is_picture};
@@ -95,16 +95,6 @@ impl Machine {
         }
     }
 
-    /// How many lines of the picture have passed since the last blank.
-    fn passed(&self) -> u8
-        ensures passed { result ≡ passed_lines self.now.now.time }
-        ensures lines { result < length self.now.now.board.lines }
-    {
-        // the contract of reading any row tells that all of them are there
-        let _top = self.picture.row(0);
-        (self.clock % FRAME_TICKS / LINE_TICKS).saturating_sub(HIDDEN_LINES) as u8
-    }
-
     /// Composes the lines that have passed since the last blank from what the memory keeps now.
     pub fn recompose(&mut self)
         ensures { self.new ≡ record {
@@ -115,9 +105,8 @@ impl Machine {
           };
         } }
     {
-        let count = self.passed();
-        for y in 0..count {
-            self.compose(y);
-        }
+        // the contract of reading any row tells that all of them are there
+        let _top = self.picture.row(0);
+        self.compose_lines(0, passed_lines(self.clock));
     }
 }

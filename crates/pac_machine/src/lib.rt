@@ -19,6 +19,6 @@ pub use fields::{Fields, MOST_ASKED};
 pub use frozen::Frozen;
 pub use machine::Machine;
 pub use stops::{Marks, Stops};
-pub use timing::{FRAME_SAMPLES, FRAME_TICKS, SAMPLE_TICKS};
+pub use timing::{BATCH_SAMPLES, FRAME_SAMPLES, FRAME_TICKS, SAMPLE_TICKS};
 pub use trail::{PastStep, Trail};
 pub use watch::{Access, Unwatched, Watch, WatchedAddresses};

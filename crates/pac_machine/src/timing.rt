@@ -1,5 +1,9 @@
 //! How sound and scan divide the board's time: in T-states, in samples and in lines.
 
+ghost use Rattle.std.specs.Prelude.{◌≡◌, ◌<◌};
+ghost use Rattle.pac_picture.specs.Tiles as tile;
+ghost use Rattle.pac_machine.specs.Standing.{passed_lines};
+
 /// The T-states from one sound sample to the next.
 pub const SAMPLE_TICKS: u64 = 32;
 
@@ -20,3 +24,15 @@ pub(crate) const SCAN_LINES: u64 = 264;
 
 /// The lines of the scan before the first that is shown.
 pub(crate) const HIDDEN_LINES: u64 = 40;
+
+/// How many samples the steps of a stretch may give before the last one.
+pub const BATCH_SAMPLES: usize = 96;
+
+/// How many lines of the picture have passed at a time since the blank before it.
+#[inline]
+pub(crate) fn passed_lines(time: u64) -> u8
+    ensures passed { result ≡ passed_lines time }
+    ensures below { result < tile.height }
+{
+    (time % FRAME_TICKS / LINE_TICKS).saturating_sub(HIDDEN_LINES) as u8
+}

@@ -1,7 +1,7 @@
 -- Lines of the picture, whole.
 use Rattle.std.proofs.Common.{◌≡◌, ◌≢◌, ℕ, zero, suc, ◌+◌, ◌-◌, ◌/◌, ◌<◌, ◌≤◌, []}
 use Rattle.std.proofs.Common.{Bool, true, false, if◌then◌else◌, List, length, get_or, set, replicate}
-use Rattle.std.proofs.Common.{slice_index, refl, ◌∙◌, arith, get_or-set_other, get_or-set_same, length-set}
+use Rattle.std.proofs.Common.{slice_index, refl, ap, ◌∙◌, arith, get_or-set_other, get_or-set_same, length-set}
 use Rattle.std.specs.Prelude.{find, unwrap_or, reverse}
 use Rattle.std.proofs.lemmas.List.{get_or-reverse, length-reverse, length-replicate}
 use Rattle.std.proofs.lemmas.Bool.{cases_Bool, cases_lt, cases_eq}
@@ -20,6 +20,7 @@ use Rattle.pac_picture.specs.LayerProofs.{kept_dot}
 use Rattle.pac_picture.specs.Painting.{painted_number}
 use Rattle.pac_picture.specs.State.{IsPicture, black}
 use Rattle.pac_picture.specs.StateLaws.{source_of}
+use Rattle.pac_picture.specs.PictureProofs.{lines_composed}
 use Rattle.pac_picture.proofs.Painted.{painted, painted-first}
 use Rattle.pac_picture.proofs.Layers.{dot-drawn}
 
@@ -192,3 +193,14 @@ source-row memory y below =
       | inl flips ↦ rw flips (omega (arith, below))
       | inr stays ↦ rw stays (omega (arith, below))
     ]
+
+-- one line more of some that are composed one after another
+pub line-on : (roms : VideoRoms) (memory : VideoMemory) (lines : List (List ℕ)) (first y : ℕ) (now new : List (List ℕ)) → first ≤ y →
+    now ≡ lines_composed roms memory lines first (y - first) → new ≡ set now y (picture_line roms memory y) →
+    new ≡ lines_composed roms memory lines first (y + 1 - first)
+line-on roms memory lines first y now new later so_far is =
+    let next : suc (y - first) ≡ y + 1 - first = omega (arith, later) in
+    let here : y ≡ first + (y - first) = omega (arith, later) in
+    is ∙ ap (λ (before : List (List ℕ)). set before y (picture_line roms memory y)) so_far
+    ∙ ap (λ (at : ℕ). set (lines_composed roms memory lines first (y - first)) at (picture_line roms memory at)) here
+    ∙ ap (lines_composed roms memory lines first) next

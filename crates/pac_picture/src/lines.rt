@@ -117,6 +117,7 @@ impl Lines {
 
     /// Composes line y of the shown picture, through a layer whose row of that line is drawn from the screen: a line on
     /// which nothing has changed is there already.
+    #[inline(always)]
     pub(crate) fn compose_line(
         &mut self,
         y: u8,
@@ -133,6 +134,7 @@ impl Lines {
         ensures lines { self.new ≡ slice_set self.old y (picture_line layer.now.roms screen.now y) }
         ensures clean { AreClean clean.new.lines clean.new.flip clean.new.sprites layer.now.roms
             layer.now.shadows self.new }
+        ensures flip { clean.new.flip ≡ clean.old.flip }
     {
         let source = screen.source(y);
         if clean.stays(source, screen) {

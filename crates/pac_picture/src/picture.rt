@@ -1,13 +1,20 @@
 //! The picture as a board keeps it.
 
-ghost use Rattle.std.specs.Prelude.{◌≡◌, ◌<◌, ◌/◌, ℕ, [], false, length, map, replicate};
+ghost use Rattle.std.specs.Prelude.{◌≡◌, ◌<◌, ◌≤◌, ◌-◌, ◌/◌, ℕ, List, [], false, length, map};
+ghost use Rattle.std.specs.Prelude.{replicate};
 ghost use Rattle.std.specs.Prelude.{slice_index, slice_index_or, slice_set, EachIndex};
 ghost use Rattle.pac_tiles.specs.Tiles as tile;
+ghost use Rattle.pac_tiles.specs.TilesLaws as tiles_laws;
 ghost use Rattle.pac_colour.specs.Colours as colour;
+ghost use Rattle.pac_picture.specs.CleanLines.{AreClean};
 ghost use Rattle.pac_picture.specs.Layer.{AreStale, cell_differs, shadow_at, cells_of};
+ghost use Rattle.pac_picture.specs.Layer.{differing_in, drawn_from};
+ghost use Rattle.pac_picture.specs.Picture.{picture_line};
 ghost use Rattle.pac_picture.specs.LayerProofs.{made_stale, stale_rows, zero_roms};
 ghost use Rattle.pac_picture.specs.State.{IsPicture, black, palette_of};
 ghost use Rattle.pac_picture.specs.StateLaws.{composed_picture, picture_with_line};
+ghost use Rattle.pac_picture.specs.PictureProofs.{lines_composed};
+ghost use Rattle.pac_picture.specs.StateLaws.{source_of};
 
 use crate::clean::Clean;
 use crate::graphics::Graphics;
@@ -15,6 +22,7 @@ use crate::layer::Layer;
 use crate::lines::Lines;
 use crate::raw::RawLines;
 use crate::screen::Screen;
+use crate::size::ROWS;
 use pac_colour::rgb;
 use std::marker::Model;
 
@@ -61,6 +69,76 @@ fn palette(colours: &[u8; 32]) -> [[u8; 3]; 16]
         palette[number] = rgb(colours[number]);
     }
     palette
+}
+
+/// Draws those cells of a row again that differ from what the screen has, and says how many they are: lines over cells that were drawn
+/// again are clean no more.
+#[inline(always)]
+fn draw_row(row: u8, screen: &Screen<'_>, layer: &mut Layer, clean: &mut Clean) -> u32
+    requires { row < tiles_laws.rows }
+    ensures layer { layer.new ≡ record layer.old
+        { shadows = slice_set layer.old.shadows row (drawn_from screen.now row) } }
+    ensures drawn { shadow_at layer.new.shadows row ≡ drawn_from screen.now row }
+    ensures count { result ≡ differing_in layer.old.shadows screen.now row }
+    ensures flip { clean.new.flip ≡ clean.old.flip }
+    ensures clean { (lines : List (List ℕ)) →
+        AreClean clean.old.lines clean.old.flip clean.old.sprites layer.old.roms
+        layer.old.shadows lines
+        → AreClean clean.new.lines clean.new.flip clean.new.sprites layer.new.roms
+        layer.new.shadows lines }
+{
+    let cells = layer.refresh(row, screen);
+    clean.redrawn(row, cells);
+    cells
+}
+
+/// Draws a row as `draw_row` does, unless it's the one that was drawn from this screen last.
+#[inline(always)]
+fn draw_other_row(row: u8, last: u8, screen: &Screen<'_>, layer: &mut Layer, clean: &mut Clean)
+    requires row { row < tiles_laws.rows }
+    requires last { last < tiles_laws.rows → shadow_at layer.old.shadows last
+        ≡ drawn_from screen.now last }
+    ensures roms { layer.new.roms ≡ layer.old.roms }
+    ensures drawn { shadow_at layer.new.shadows row ≡ drawn_from screen.now row }
+    ensures flip { clean.new.flip ≡ clean.old.flip }
+    ensures clean { (lines : List (List ℕ)) →
+        AreClean clean.old.lines clean.old.flip clean.old.sprites layer.old.roms
+        layer.old.shadows lines
+        → AreClean clean.new.lines clean.new.flip clean.new.sprites layer.new.roms
+        layer.new.shadows lines }
+{
+    if row != last {
+        draw_row(row, screen, layer, clean);
+    }
+}
+
+/// Composes lines of the shown picture, from one to before another. The cells of a row are compared once for all of its lines.
+#[inline(always)]
+fn compose_each(
+    first: u8,
+    end: u8,
+    screen: &Screen<'_>,
+    layer: &mut Layer,
+    lines: &mut Lines,
+    clean: &mut Clean,
+)
+    requires order { first ≤ end }
+    requires end { end ≤ tile.height }
+    requires clean { AreClean clean.old.lines clean.old.flip clean.old.sprites layer.old.roms
+        layer.old.shadows lines.old }
+    requires flip { clean.old.flip ≡ screen.now.flip }
+    ensures lines { lines.new ≡ lines_composed layer.old.roms screen.now lines.old first (end - first) }
+    ensures roms { layer.new.roms ≡ layer.old.roms }
+    ensures clean { AreClean clean.new.lines clean.new.flip clean.new.sprites layer.new.roms
+        layer.new.shadows lines.new }
+{
+    let mut last = ROWS;
+    for y in first..end {
+        let row = screen.source(y) / 8;
+        draw_other_row(row, last, screen, layer, clean);
+        lines.compose_line(y, layer, screen, clean);
+        last = row;
+    }
 }
 
 impl Picture {
@@ -163,7 +241,7 @@ impl Picture {
         self.palette[number as usize]
     }
 
-    /// How many cells the last composing drew, 0 before any.
+    /// How many cells the last composing of the picture, or of one line, drew, 0 before any.
     #[inline]
     pub fn drawn(&self) -> u32
         ensures { result ≡ self.now.drawn }
@@ -209,11 +287,29 @@ impl Picture {
         ensures { self.new ≡ picture_with_line y screen.now self.old }
     {
         let row = screen.source(y) / 8;
-        let cells = self.layer.refresh(row, screen);
-        self.drawn = cells;
-        self.clean.redrawn(row, cells);
+        self.drawn = draw_row(row, screen, &mut self.layer, &mut self.clean);
         self.clean.turn(screen.flip());
         self.lines
             .compose_line(y, &self.layer, screen, &mut self.clean);
+    }
+
+    /// Composes lines of the picture that the screen shows, from one to before another, and leaves the others; `drawn` stays.
+    pub fn compose_lines(&mut self, first: u8, end: u8, screen: &Screen<'_>)
+        requires order { first ≤ end }
+        requires end { end ≤ tile.height }
+        ensures { self.new ≡ record self.old {
+          lines = lines_composed self.old.roms screen.now self.old.lines first (end - first);
+          shadows = self.new.shadows;
+        } }
+    {
+        self.clean.turn(screen.flip());
+        compose_each(
+            first,
+            end,
+            screen,
+            &mut self.layer,
+            &mut self.lines,
+            &mut self.clean,
+        );
     }
 }

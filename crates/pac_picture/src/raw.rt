@@ -1,6 +1,6 @@
 //! Lines of a picture as they come from elsewhere, and whether they are a picture's.
 
-ghost use Rattle.std.specs.Prelude.{◌≡◌, ◌<◌, ◌↔◌, [], true, length, slice_index, slice_index_or};
+ghost use Rattle.std.specs.Prelude.{◌≡◌, ◌<◌, ◌↔◌, ℕ, [], true, length, slice_index, slice_index_or};
 ghost use Rattle.std.specs.Prelude.{EachIndex};
 ghost use Rattle.pac_tiles.specs.Tiles as tile;
 ghost use Rattle.pac_colour.specs.Colours as colour;
@@ -30,27 +30,35 @@ fn has_width(line: &[u8; WIDTH])
     ensures { length line.now ≡ tile.width }
 {}
 
-/// All bits that any number of a line has: where they are below 16, so is each number.
+/// All bits that any of some numbers has: where they are below 16, so is each number.
 #[inline]
-fn bits(line: &[u8; WIDTH]) -> u8
-    ensures below { (result < colour.numbers) ↔ EachIndex line.now
-        (λ x. slice_index line.now x < colour.numbers) }
+fn bits(numbers: &[u8]) -> u8
+    ensures below { (result < colour.numbers) ↔ EachIndex numbers.now
+        (λ x. slice_index numbers.now x < colour.numbers) }
 {
     let mut bits = 0;
-    for number in line {
+    for number in numbers {
         bits |= *number;
     }
     bits
 }
 
-/// Whether lines are a picture's: each number is a colour number.
+/// Each line has its width. It only looks, so nothing of it is left once it is compiled.
+#[inline(always)]
+fn have_width(lines: &RawLines)
+    ensures high { length lines.now ≡ tile.height }
+    ensures wide { (y : ℕ) → y < tile.height →
+        length (slice_index_or lines.now y []) ≡ tile.width }
+{
+    for y in 0..HEIGHT {
+        raw_row(lines, y);
+    }
+}
+
+/// Whether lines are a picture's: each number is a colour number. All are looked at in one go, since a picture that is none is rare.
 pub fn is_picture(lines: &RawLines) -> bool
     ensures { (result ≡ true) ↔ IsPicture lines.now }
 {
-    for y in 0..HEIGHT {
-        if bits(raw_row(lines, y)) >= 16 {
-            return false;
-        }
-    }
-    true
+    have_width(lines);
+    bits(lines.as_flattened()) < 16
 }

@@ -5,7 +5,7 @@ use Rattle.pac_board_model.specs.Step.{Moment, step}
 use Rattle.pac_board_model.specs.Trace.{by_view}
 use Rattle.pac_board_model.proofs.Walks.{step-timely}
 use Rattle.pac_cpu.specs.declared.once.Stop.{Stop}
-use Rattle.pac_machine.specs.BurstsProofs.{MakesBatch, batch_at, line_end}
+use Rattle.pac_machine.specs.BurstsProofs.{MakesBatch, batch_at}
 use Rattle.pac_machine.specs.StandingProofs.{BoardStanding}
 use Rattle.pac_machine.specs.declared.due.Due.{Due}
 use Rattle.pac_board.specs.State.{BoardValue, steps_counted}
@@ -27,7 +27,7 @@ module _ {old new : BoardStanding} {limit : ℕ} {stop : Option Stop} {given : L
   steps-on : old.now.steps ≤ new.now.steps
   steps-on =
       let timely = λ (now : Moment BoardView). step-timely (by_view old.set) now in
-      let more = walked-after (step (by_view old.set)) (line_end limit old.now.time) timely old.now (suc made.tries) in
+      let more = walked-after (step (by_view old.set)) limit timely old.now (suc made.tries) in
       let longer = more.steps in
       let same = ap (λ (m : Moment BoardView). m.steps) made.now in
       omega arith

@@ -2,7 +2,6 @@
 use Rattle.std.proofs.Common.{rules}
 use Rattle.pac_board_model.specs.Step.{step}
 use Rattle.pac_board_model.specs.Trace.{by_view}
-use Rattle.pac_machine.specs.BurstsProofs.{line_end}
 use Rattle.pac_machine.specs.Trails.{IsNoted}
 use Rattle.pac_board.proofs.Told.{board-noted}
 use Rattle.pac_board.proofs.board.Board.make_stretch.Goals as goal
@@ -10,8 +9,7 @@ use Rattle.pac_board.proofs.board.Board.make_stretch.Goals as goal
 pub returns-clause-told : goal.returns-clause-told
 returns-clause-told g c =
     let old = c.self.inside.machine in
-    let until = line_end c.args.limit old.now.time in
-    let told : IsNoted (step (by_view old.set)) until old.now c.stretch.new.self.now c.args.told.now c.stretch.new.told =
+    let told : IsNoted (step (by_view old.set)) c.args.limit old.now c.stretch.new.self.now c.args.told.now c.stretch.new.told =
     c.stretch.ensures.told in
     board-noted c.args.self.now old c.stretch.new.self.now c.args.limit c.args.told.now c.stretch.new.told
     (search rules) told

@@ -1,5 +1,5 @@
 -- Each stretch goes along the walk, and tells its steps.
-use Rattle.std.proofs.Common.{◌+◌, List, ℕ, Option, None, sym, ap, subst, ◌∙◌, arith, rules}
+use Rattle.std.proofs.Common.{◌+◌, Option, sym, ap, subst, ◌∙◌, arith, rules}
 use Rattle.std.proofs.lemmas.Result.{err_from_is_err_and}
 use Rattle.pac_board_model.specs.Step.{step}
 use Rattle.pac_board_model.specs.Trace.{by_view}
@@ -15,23 +15,23 @@ use Rattle.pac_board.proofs.board.Board.run.Goals as goal
 
 pub returns-in_err-met : goal.returns-in_err-met
 returns-in_err-met g c =
-    let was = c.loop-self.invariant in
+    let was = c.loop-samples.invariant in
     let one = c.in_err-met.ensures in
     let same = ap (λ (b : BoardValue). b.set) was.made.board_is in
     let failed = err_from_is_err_and c.from_residual.result c.from_residual.ensures.1 in
     let on =
-    passed-further c.args.self.now c.loop-self.self c.stretch.new.self c.args.limit c.args.stops.now (g.W.Watch.marks c.args.watch.now) same
-    was.marks was.told was.passes was.watched one.told one.passes one.watched in
+    passed-further c.args.self.now c.loop-samples.self c.stretch.new.self c.args.limit c.args.stops.now (g.W.Watch.marks c.args.watch.now)
+    same was.marks was.told was.passes was.watched one.told one.passes one.watched in
     record { made = rw failed.1 (stretch-refused was.made one.made); told = on.told; passes = on.passes; watched = on.watched }
 
 pub returns-in-Some : goal.returns-in-Some
 returns-in-Some g c =
-    let was = c.loop-self.invariant in
+    let was = c.loop-samples.invariant in
     let one = c.in_ok-met.ensures in
     let same = ap (λ (b : BoardValue). b.set) was.made.board_is in
     let on =
-    passed-further c.args.self.now c.loop-self.self c.stretch.new.self c.args.limit c.args.stops.now (g.W.Watch.marks c.args.watch.now) same
-    was.marks was.told was.passes was.watched one.told one.passes one.watched in
+    passed-further c.args.self.now c.loop-samples.self c.stretch.new.self c.args.limit c.args.stops.now (g.W.Watch.marks c.args.watch.now)
+    same was.marks was.told was.passes was.watched one.told one.passes one.watched in
     record {
       made = gone-to-limit _ (stretch-stops was.made one.made c.in-Some.is);
       told = on.told;
@@ -39,22 +39,22 @@ returns-in-Some g c =
       watched = on.watched;
     }
 
-pub loop-self-smaller : goal.loop-self-smaller
-loop-self-smaller g c =
-    let longer = stretch-longer c.loop-self.invariant.made c.in_ok-met.ensures.made c.in_default.is in
+pub loop-samples-smaller : goal.loop-samples-smaller
+loop-samples-smaller g c =
+    let longer = stretch-longer c.loop-samples.invariant.made c.in_ok-met.ensures.made c.in_default.is in
     omega arith
 
-pub loop-self-preserved : goal.loop-self-preserved
-loop-self-preserved g c =
-    let was = c.loop-self.invariant in
+pub loop-samples-preserved : goal.loop-samples-preserved
+loop-samples-preserved g c =
+    let was = c.loop-samples.invariant in
     let one = c.in_ok-met.ensures in
     let old = c.args.self.now in
     let same = ap (λ (b : BoardValue). b.set) was.made.board_is in
     let longer = stretch-longer was.made one.made c.in_default.is in
     let so_far = was.after in
     let on =
-    passed-further c.args.self.now c.loop-self.self c.stretch.new.self c.args.limit c.args.stops.now (g.W.Watch.marks c.args.watch.now) same
-    was.marks was.told was.passes was.watched one.told one.passes one.watched in
+    passed-further c.args.self.now c.loop-samples.self c.stretch.new.self c.args.limit c.args.stops.now (g.W.Watch.marks c.args.watch.now)
+    same was.marks was.told was.passes was.watched one.told one.passes one.watched in
     let none = none-met _ (sym c.has_met.ensures ∙ c.if-has_met.false) in
     record {
       made = stretch-goes-on was.made one.made c.in_default.is;
@@ -69,14 +69,14 @@ loop-self-preserved g c =
 
 pub returns-then-has_met : goal.returns-then-has_met
 returns-then-has_met g c =
-    let was = c.loop-self.invariant in
+    let was = c.loop-samples.invariant in
     let one = c.in_ok-met.ensures in
     let same = ap (λ (b : BoardValue). b.set) was.made.board_is in
     let longer = stretch-longer was.made one.made c.in_default.is in
     let so_far = was.after in
     let on =
-    passed-further c.args.self.now c.loop-self.self c.stretch.new.self c.args.limit c.args.stops.now (g.W.Watch.marks c.args.watch.now) same
-    was.marks was.told was.passes was.watched one.told one.passes one.watched in
+    passed-further c.args.self.now c.loop-samples.self c.stretch.new.self c.args.limit c.args.stops.now (g.W.Watch.marks c.args.watch.now)
+    same was.marks was.told was.passes was.watched one.told one.passes one.watched in
     record {
       made = gone-to-access (stretch-goes-on was.made one.made c.in_default.is) c.args.stops.now _
           (sym c.has_met.ensures ∙ c.if-has_met.true) (omega arith);
@@ -87,14 +87,14 @@ returns-then-has_met g c =
 
 pub returns-then-has : goal.returns-then-has
 returns-then-has g c =
-    let was = c.loop-self.invariant in
+    let was = c.loop-samples.invariant in
     let one = c.in_ok-met.ensures in
     let same = ap (λ (b : BoardValue). b.set) was.made.board_is in
     let longer = stretch-longer was.made one.made c.in_default.is in
     let so_far = was.after in
     let on =
-    passed-further c.args.self.now c.loop-self.self c.stretch.new.self c.args.limit c.args.stops.now (g.W.Watch.marks c.args.watch.now) same
-    was.marks was.told was.passes was.watched one.told one.passes one.watched in
+    passed-further c.args.self.now c.loop-samples.self c.stretch.new.self c.args.limit c.args.stops.now (g.W.Watch.marks c.args.watch.now)
+    same was.marks was.told was.passes was.watched one.told one.passes one.watched in
     record {
       made = gone-to-stop (stretch-goes-on was.made one.made c.in_default.is) c.args.stops.now _
           (none-met _ (sym c.has_met.ensures ∙ c.if-has_met.false)) (omega arith) (search rules);
@@ -107,11 +107,11 @@ pub returns : goal.returns
 returns g c =
     let old = c.args.self.now in
     record {
-      made = gone-to-limit _ (time-is-over c.loop-self.invariant.made (omega arith));
-      told = c.loop-self.invariant.told;
-      passes = passes-fewer (step (by_view old.set)) c.args.stops.now old.state.now (c.loop-self.self.state.now.steps + 1)
-          c.loop-self.self.state.now.steps c.loop-self.invariant.passes (omega arith);
+      made = gone-to-limit _ (time-is-over c.loop-samples.invariant.made (omega arith));
+      told = c.loop-samples.invariant.told;
+      passes = passes-fewer (step (by_view old.set)) c.args.stops.now old.state.now (c.loop-samples.self.state.now.steps + 1)
+          c.loop-samples.self.state.now.steps c.loop-samples.invariant.passes (omega arith);
       watched =
-          subst (λ (met : Option Access). BoardWatched (g.W.Watch.marks c.args.watch.now) old c.loop-self.self met)
-          (sym c.loop-self.invariant.unmet) c.loop-self.invariant.watched;
+          subst (λ (met : Option Access). BoardWatched (g.W.Watch.marks c.args.watch.now) old c.loop-samples.self met)
+          (sym c.loop-samples.invariant.unmet) c.loop-samples.invariant.watched;
     }

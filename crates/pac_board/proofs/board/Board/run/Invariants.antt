@@ -8,8 +8,8 @@ use Rattle.pac_board.specs.Stretches.{IsTold}
 use Rattle.pac_board.proofs.Turns.{IsUnderway}
 use Rattle.pac_board.proofs.board.Board.run.Given as goal
 
-abbrev pub invariant-loop-self : goal.invariant-loop-self
-invariant-loop-self g l = record {
+abbrev pub invariant-loop-samples : goal.invariant-loop-samples
+invariant-loop-samples g l = record {
   made : IsUnderway g.S.Sink.took l.initial.self l.limit l.initial.sink l.self l.sink;
   told : IsTold l.initial.self l.limit l.self l.initial.told l.told;
   passes : PassesBy (step (by_view l.initial.self.set)) l.stops l.initial.self.state.now (l.self.state.now.steps + 1);
@@ -19,5 +19,5 @@ invariant-loop-self g l = record {
   after : l.initial.self.state.now.time ≤ l.self.state.now.time;
 }
 
-abbrev pub decreases-loop-self : goal.decreases-loop-self
-decreases-loop-self g l = l.limit - l.self.state.now.time
+abbrev pub decreases-loop-samples : goal.decreases-loop-samples
+decreases-loop-samples g l = l.limit - l.self.state.now.time

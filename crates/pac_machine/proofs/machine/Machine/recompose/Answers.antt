@@ -1,12 +1,19 @@
-use Rattle.std.proofs.Common.{arith}
-use Rattle.pac_machine.proofs.Recomposed.{begins, goes-on}
+use Rattle.std.proofs.Common.{◌≡◌, ◌≤◌, ◌-◌, ◌∙◌, ℕ, length, sym, ap, arith}
+use Rattle.pac_machine.specs.BurstsProofs.{standing_composed}
+use Rattle.pac_machine.specs.Standing.{passed_lines, recomposed_view}
+use Rattle.pac_machine.specs.StandingProofs.{BoardStanding}
+use Rattle.pac_machine.proofs.Recomposed.{recomposed}
 use Rattle.pac_machine.proofs.machine.Machine.recompose.Goals as goal
 
-pub loop-y-init : goal.loop-y-init
-loop-y-init c = record { done = begins c.args.self.now }
-
-pub loop-y-preserved : goal.loop-y-preserved
-loop-y-preserved c = record {
-  done = goes-on c.args.self.now c.loop-y.self c.compose.new.self c.loop-y.y
-      (omega (arith, c.passed-count.ensures.lines, c.loop-y-test.true)) c.loop-y.invariant.done (c.compose.ensures 0);
-}
+pub returns : goal.returns
+returns c =
+    let old = c.args.self.now in
+    let count = c.passed_lines.result in
+    let none : count - 0 ≡ count = omega arith in
+    let high : length old.now.board.lines ≡ 224 = ap (λ (s : BoardStanding). length s.now.board.lines) (sym c.self.view_is)
+    ∙ c.row-top.ensures.picture.high in
+    let fits : count ≤ length old.now.board.lines = omega (arith, high, c.passed_lines.ensures.below) in
+    let passed : count ≡ passed_lines old.now.time = c.passed_lines.ensures.passed
+    ∙ ap (λ (s : BoardStanding). passed_lines s.now.time) c.compose_lines.view_is in
+    c.compose_lines-2.ensures ∙ ap (standing_composed old 0) none ∙ recomposed old count fits
+    ∙ ap (λ (n : ℕ). record { set = old.set; now = record old.now { board = recomposed_view old.set old.now.board n } }) passed

@@ -1,9 +1,8 @@
 use Rattle.std.proofs.Common.{◌≡◌, ℕ, ◌<◌, [], get_or, length}
-use Rattle.pac_picture.proofs.raw.is_picture.Given as goal
+use Rattle.pac_picture.proofs.raw.have_width.Given as goal
 
 abbrev pub invariant-loop-y : goal.invariant-loop-y
 invariant-loop-y l = record {
   high : 0 < l.y → length l.lines ≡ 224;
   wide : (k : ℕ) → k < l.y → length (get_or l.lines k []) ≡ 288;
-  below : (k i : ℕ) → k < l.y → i < 288 → get_or (get_or l.lines k []) i 0 < 16;
 }
