@@ -132,18 +132,40 @@ unfolding total
 length-front version digest state long sizes =
     ap length (sym (joined-pieces version digest state)) ∙ (grind (arith, length-joined, total, widths-are))
 
--- these pieces, one after another, are all that comes before the picture
-pub front-is : (digest : List ℕ) (state : BoardState) {version cpu time steps asked first second third controls due : List ℕ}
-    → version ≡ saved_word written_version → cpu ≡ processor_bytes state.now.regs → time ≡ saved_long_word state.now.time
-    → steps ≡ saved_long_word state.now.steps → asked ≡ saved_long_word state.asked
+-- these pieces, one after another, are the head, and the devices
+pub head-is : (digest : List ℕ) (state : BoardState) {version cpu time steps asked : List ℕ} → version ≡ saved_word written_version
+    → cpu ≡ processor_bytes state.now.regs → time ≡ saved_long_word state.now.time → steps ≡ saved_long_word state.now.steps
+    → asked ≡ saved_long_word state.asked →
+    joined_pieces (magic ∷ version ∷ digest ∷ cpu ∷ time ∷ steps ∷ asked ∷ []) ≡ joined_pieces (head written_version digest state)
+unfolding head
+head-is digest state version cpu time steps asked = cc
+
+pub devices-are : (state : BoardState) {first second third controls due : List ℕ}
     → first ≡ saved_double_word state.now.board.accumulators.first → second ≡ saved_double_word state.now.board.accumulators.second
     → third ≡ saved_double_word state.now.board.accumulators.third → controls ≡ control_bytes state.now.board.memory
     → due ≡ due_bytes state.due →
-    joined_pieces (magic ∷ version ∷ digest ∷ cpu ∷ time ∷ steps ∷ asked ∷ state.now.board.memory.tile ∷ state.now.board.memory.colour
-    ∷ state.now.board.memory.work ∷ state.now.board.memory.coordinates ∷ state.now.board.memory.registers ∷ first ∷ second ∷ third
-    ∷ controls ∷ due ∷ []) ≡ file_front written_version digest state
-unfolding head ram devices
-front-is digest state version cpu time steps asked first second third controls due = grind (arith, joined-pieces)
+    joined_pieces (state.now.board.memory.coordinates ∷ state.now.board.memory.registers ∷ first ∷ second ∷ third ∷ controls ∷ due ∷ [])
+    ≡ joined_pieces (devices state)
+unfolding devices
+devices-are state first second third controls due = cc
+
+pub length-head : (version : ℕ) (digest : List ℕ) (state : BoardState) → length digest ≡ 20
+    → length (joined_pieces (head version digest state)) ≡ 82
+unfolding head processor_bytes total
+length-head version digest state long = length-joined (head version digest state) ∙ rw long refl
+
+pub length-devices : (state : BoardState) → length state.now.board.memory.coordinates ≡ 16
+    → length state.now.board.memory.registers ≡ 32 → length (joined_pieces (devices state)) ≡ 70
+unfolding devices control_bytes due_bytes total
+length-devices state coordinates registers = length-joined (devices state) ∙ rw (coordinates, registers) refl
+
+-- with the three RAMs between them, they are all that comes before the picture
+pub front-is : (digest : List ℕ) (state : BoardState) {before after : List ℕ} → before ≡ joined_pieces (head written_version digest state)
+    → after ≡ joined_pieces (devices state) →
+    joined_pieces (before ∷ state.now.board.memory.tile ∷ state.now.board.memory.colour ∷ state.now.board.memory.work ∷ after ∷ [])
+    ≡ file_front written_version digest state
+unfolding ram
+front-is digest state before after = grind (arith, common_steps)
 
 -- ---- the lines of the picture
 

@@ -1,6 +1,7 @@
 //! Why a state file was not loaded.
 
-ghost use Rattle.std.specs.Prelude.{Some};
+ghost use Rattle.std.specs.Prelude.{◌≡◌, Some};
+ghost use Rattle.pac_state.specs.Codes.{load_fault_text};
 
 use pac_board::RomSet;
 use std::fmt;
@@ -26,20 +27,27 @@ pub enum LoadFault {
 }
 
 impl fmt::Display for LoadFault {
-    ghost use Rattle.pac_state.specs.Codes.{load_fault_text};
-
     ghost output = { λ fault. Some (load_fault_text fault) };
 
     /// The code of the fault.
     fn fmt<W: fmt::Write>(&self, f: &mut fmt::Formatter<W>) -> fmt::Result {
+        f.write_str(self.code())
+    }
+}
+
+impl LoadFault {
+    /// The code of the fault, as it is told.
+    fn code(&self) -> &'static str
+        ensures { result.now ≡ load_fault_text self.now }
+    {
         match self {
-            LoadFault::NoState => f.write_str("V1"),
-            LoadFault::OtherVersion => f.write_str("V2"),
-            LoadFault::Size => f.write_str("V3"),
-            LoadFault::OutOfRange => f.write_str("V4"),
-            LoadFault::Damaged => f.write_str("V5"),
-            LoadFault::OtherSet => f.write_str("V6"),
-            LoadFault::NoMemory => f.write_str("no memory"),
+            LoadFault::NoState => "V1",
+            LoadFault::OtherVersion => "V2",
+            LoadFault::Size => "V3",
+            LoadFault::OutOfRange => "V4",
+            LoadFault::Damaged => "V5",
+            LoadFault::OtherSet => "V6",
+            LoadFault::NoMemory => "no memory",
         }
     }
 }

@@ -30,8 +30,10 @@ pub fn saved_again<W: Out>(
     requires { saved.version_in bytes.now ≡ text.written_version }
     ensures { IfOk result (λ written. Saves W.took W.refused out.old bytes.now written out.new) }
 {
-    let board = load(alloc, bytes, set)?;
-    Ok(save(&board, out))
+    match load(alloc, bytes, set) {
+        Ok(board) => Ok(save(&board, out)),
+        Err(refused) => Err(refused),
+    }
 }
 
 /// Reading a state back out of its text gives the state.

@@ -47,7 +47,7 @@ fn sample(due: Due)
 }
 
 /// Memories have their sizes.
-fn sizes(memory: &pac_board::MemoryFields)
+pub(crate) fn sizes(memory: &pac_board::MemoryFields)
     ensures tile { length memory.now.tile.now ≡ place.ram_size }
     ensures colour { length memory.now.colour.now ≡ place.ram_size }
     ensures work { length memory.now.work.now ≡ place.ram_size }

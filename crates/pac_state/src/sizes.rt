@@ -8,6 +8,12 @@ pub(crate) const FILE_SIZE: usize = 67_756;
 /// All that comes before the digest at its end.
 pub(crate) const BODY_SIZE: usize = 67_736;
 
+/// What comes before the memory.
+pub(crate) const HEAD_SIZE: usize = 82;
+
+/// What stands between the three RAMs and the picture.
+pub(crate) const DEVICES_SIZE: usize = 70;
+
 /// All that comes before the picture.
 pub(crate) const FRONT_SIZE: usize = 3224;
 
