@@ -14,6 +14,7 @@ use Rattle.pac_code.specs.Items.{Item, bytes_of}
 use Rattle.pac_asm_line.specs.Statements.{Statement, Form}
 use Rattle.pac_asm_line.specs.Forms.{form_of}
 use Rattle.pac_asm_line.specs.Contents.{content_of}
+use Rattle.pac_asm_line.specs.ContentsProofs.{SizeFits}
 use Rattle.pac_asm_program.specs.Names.{Symbol}
 use Rattle.pac_asm_program.specs.Programs.{items_in}
 use Rattle.pac_asm_program.specs.declared.line.Line.{Line}
@@ -40,20 +41,17 @@ pub read-is : (line : List ℕ) (lexemes : List Lexeme) (form : Form) → tokens
 unfolding form_of_line
 read-is line lexemes form e f = cc (e, f)
 
-some-content : (names : List ℕ → Option ℤ) (here size : ℕ) (s : Statement) → IsSized size s → content_of names here size s ≡ Ok None → ⊥
+pub some-content : (names : List ℕ → Option ℤ) (here size : ℕ) (s : Statement) → IsSized size s → content_of names here size s ≡ Ok None → ⊥
 unfolding content_of
 some-content names here size s h e = search rules
+
+pub size-fits : (size : ℕ) (s : Statement) → IsSized size s → SizeFits size s
+size-fits size s h = search rules
 
 -- the form of a line is the one that its place fits
 pub fits-form : (line : List ℕ) (span : Span) (lexemes : List Lexeme) (form : Form) → tokens_of line ≡ Ok lexemes
     → form_of lexemes ≡ Some form → FitsLine line (Placed span) → IsSized span.size form.statement
 fits-form line span lexemes form e f (fitting, is, sized) = grind (arith, read-is)
-
-pub no-content : (line : List ℕ) (span : Span) (lexemes : List Lexeme) (form : Form) (names : List ℕ → Option ℤ)
-    → tokens_of line ≡ Ok lexemes → form_of lexemes ≡ Some form → FitsLine line (Placed span)
-    → content_of names span.at span.size form.statement ≡ Ok None → ⊥
-no-content line span lexemes form names e f fits none =
-    some-content names span.at span.size form.statement (fits-form line span lexemes form e f fits) none
 
 -- ---- items that lie apart
 

@@ -9,19 +9,19 @@ use Rattle.pac_asm.specs.Results.{◌>>=◌, result_of_line}
 use Rattle.pac_asm.specs.Pairing.{is_found_line}
 use Rattle.pac_asm.specs.Unclosed.{conditional_of_line, is_never_closed}
 use Rattle.pac_asm.specs.UnclosedProofs.{first_unclosed}
-use Rattle.pac_asm.specs.Standings.{Standing, first_standing}
+use Rattle.pac_asm.specs.Standings.{Standing}
 use Rattle.pac_asm.specs.Phase1.{after_text, after_line, unless_left_open, phase1}
 use Rattle.pac_asm.proofs.Pairs.{shifted, shifted-none}
 
 -- what is known after some lines: the line after them stands below so many
-pub record Laid (source rest : List ℕ) (unclosed : Option ℕ) (above : ℕ) (standing : Standing) : Type 0 where
-  pub same : phase1 (above + 1) standing (lines rest) ≡ phase1 1 first_standing (lines source)
+pub record Laid (first : Standing) (source rest : List ℕ) (unclosed : Option ℕ) (above : ℕ) (standing : Standing) : Type 0 where
+  pub same : phase1 (above + 1) standing (lines rest) ≡ phase1 1 first (lines source)
   pub counted : above + length (lines rest) ≡ length (lines source)
   pub pairs : unclosed ≡ shifted above (first_unclosed (lines rest))
 
-pub begins : (source : List ℕ) (unclosed : Option ℕ) → unclosed ≡ first_unclosed (lines source) →
-    Laid source source unclosed 0 first_standing
-begins source unclosed e =
+pub begins : (first : Standing) (source : List ℕ) (unclosed : Option ℕ) → unclosed ≡ first_unclosed (lines source) →
+    Laid first source source unclosed 0 first
+begins first source unclosed e =
     record { same = refl; counted = omega arith; pairs = e ∙ sym (shifted-none (first_unclosed (lines source))) }
 
 -- ---- whether the next line is an IF that is never closed
@@ -49,8 +49,9 @@ refused : (number : ℕ) (old : Standing) (line : List ℕ) (below : List (List 
 unfolding phase1
 refused number old line below fault e = ap (λ (r : Result Standing AsmFault). r >>= λ after. phase1 (number + 1) after below) e
 
-module _ (source rest line below : List ℕ) (unclosed : Option ℕ) (above : ℕ) (old : Standing) (is_open : Bool)
-    (parts : lines rest ≡ line ∷ lines below) (at : is_open ≡ is_found_line unclosed above) (was : Laid source rest unclosed above old)
+module _ (first : Standing) (source rest line below : List ℕ) (unclosed : Option ℕ) (above : ℕ) (old : Standing) (is_open : Bool)
+    (parts : lines rest ≡ line ∷ lines below) (at : is_open ≡ is_found_line unclosed above)
+    (was : Laid first source rest unclosed above old)
   where
     abbrev never : Bool
     never = is_never_closed (conditional_of_line line) (lines below)
@@ -61,7 +62,7 @@ module _ (source rest line below : List ℕ) (unclosed : Option ℕ) (above : �
     open_is : is_open ≡ never
     open_is = at ∙ ap (λ (x : Option ℕ). is_found_line x above) pairs_here ∙ here above never (lines below)
 
-    same_here : phase1 (above + 1) old (line ∷ lines below) ≡ phase1 1 first_standing (lines source)
+    same_here : phase1 (above + 1) old (line ∷ lines below) ≡ phase1 1 first (lines source)
     same_here = ap (phase1 (above + 1) old) (sym parts) ∙ was.same
 
     line_is : result_of_line (above + 1) (unless_left_open is_open (after_text old line))
@@ -69,15 +70,15 @@ module _ (source rest line below : List ℕ) (unclosed : Option ℕ) (above : �
     line_is = ap (λ (b : Bool). result_of_line (above + 1) (unless_left_open b (after_text old line))) open_is
 
     pub onward : (new : Standing) → result_of_line (above + 1) (unless_left_open is_open (after_text old line)) ≡ Ok new → is_open ≡ false
-        → Laid source below unclosed (above + 1) new
+        → Laid first source below unclosed (above + 1) new
     onward new e shut = grind (arith, line_is, next, pairs_here, same_here, taken)
 
     pub ends : (error : AsmError) → AssemblyFails error (result_of_line (above + 1) (unless_left_open is_open (after_text old line)))
-        → AssemblyFails error (phase1 1 first_standing (lines source))
+        → AssemblyFails error (phase1 1 first (lines source))
     ends error h = grind (arith, line_is, refused, same_here)
 
-pub finished : (source rest : List ℕ) (unclosed : Option ℕ) (above : ℕ) (standing : Standing) → rest ≡ []
-    → Laid source rest unclosed above standing → phase1 1 first_standing (lines source) ≡ Ok standing
+pub finished : (first : Standing) (source rest : List ℕ) (unclosed : Option ℕ) (above : ℕ) (standing : Standing) → rest ≡ []
+    → Laid first source rest unclosed above standing → phase1 1 first (lines source) ≡ Ok standing
 unfolding phase1
-finished source rest unclosed above standing none was =
+finished first source rest unclosed above standing none was =
     sym was.same ∙ ap (λ (text : List ℕ). phase1 (above + 1) standing (lines text)) none

@@ -10,6 +10,7 @@ pub mod Standings
 pub mod Layouts
 pub mod Reading
 pub mod Phase1
+pub mod Phase1Proofs
 pub mod Phase2
 pub mod Items
 pub mod Programs

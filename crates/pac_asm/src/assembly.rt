@@ -1,9 +1,10 @@
 //! A source as a whole.
 
-ghost use Rattle.std.specs.Prelude.{◌≡◌, IfOk};
+ghost use Rattle.std.specs.Prelude.{◌≡◌, IfOk, Ok, flat_map};
 ghost use Rattle.std.specs.Str.Lines.{lines as text_lines};
 ghost use Rattle.pac_code.specs.Items.{AllLie};
-ghost use Rattle.pac_asm_program.specs.Programs.{items_of};
+ghost use Rattle.pac_asm_program.specs.Programs.{items_in, items_of};
+ghost use Rattle.pac_asm_program.specs.Rom.{rom_of};
 ghost use Rattle.pac_asm_program.specs.RomLaws.{AreApart};
 ghost use Rattle.pac_asm_program.specs.RomProofs.{IsZeroElsewhere};
 ghost use Rattle.pac_asm.specs.Assignments.{OneIsRight};
@@ -15,7 +16,7 @@ use crate::fault::{AsmCode, AsmError, LineError};
 use crate::lines::{MOST_LINES, has_too_many_lines};
 use crate::phase1::lay_out;
 use crate::phase2::fill_in;
-use pac_asm_program::{Program, apart_items_lie, rom_of};
+use pac_asm_program::{Line, Program, Symbols, apart_items_lie, rom_of};
 use pac_heap::Global;
 
 /// The program of a source, or its first fault: A7 before all others; then the first line that has a fault of the
@@ -41,10 +42,22 @@ pub fn assemble(alloc: Global, source: &[u8]) -> Result<Program, AsmError>
     if has_too_many_lines(source) {
         return Err(LineError::Code(AsmCode::TooManyLines).in_line(MOST_LINES + 1));
     }
-    let (symbols, layout) = lay_out(alloc, source)?.parts();
-    let lines = fill_in(alloc, source, &symbols, layout.places())?;
-    let rom = rom_of(alloc, &lines)?;
+    let standing = lay_out(alloc, source)?;
+    let lines = fill_in(alloc, source, standing.symbols(), standing.places())?;
     // A law, with nothing to run: the lines' items are apart, so each has its bytes in the ROM.
     apart_items_lie();
+    with_rom(alloc, lines, standing.into_symbols())
+}
+
+/// The program of these lines and symbols.
+fn with_rom(alloc: Global, lines: Vec<Line, Global>, symbols: Symbols) -> Result<Program, AsmError>
+    ensures exact { AssemblyGives result (Ok (record {
+      lines = lines.items;
+      symbols = symbols;
+      rom = rom_of (flat_map items_in lines.items);
+    })) }
+    ensures zero { IfOk result (λ program. IsZeroElsewhere program.rom (items_of program)) }
+{
+    let rom = rom_of(alloc, &lines)?;
     Ok(Program::new(lines, symbols, rom))
 }

@@ -20,22 +20,25 @@ pub(crate) fn lay_out(alloc: Global, source: &[u8]) -> Result<Standing, AsmError
     requires { length (lines source.now) ≤ most_lines }
     ensures { AssemblyGives result (phase1 1 first_standing (lines source.now)) }
 {
-    let unclosed = first_unclosed(source);
     let mut standing = Standing::start(alloc, source)?;
+    take_lines(&mut standing, alloc, source)?;
+    Ok(standing)
+}
+
+/// Takes all lines of a source.
+fn take_lines(standing: &mut Standing, alloc: Global, source: &[u8]) -> Result<(), AsmError>
+    requires { length (lines source.now) ≤ most_lines }
+    ensures { AssemblyBecomes result (phase1 1 standing.old (lines source.now)) standing.new }
+{
+    let unclosed = first_unclosed(source);
     let mut rest = source;
     let mut above: u32 = 0;
     while let Some((line, below)) = first_line(rest) {
-        take_line(
-            &mut standing,
-            alloc,
-            line,
-            above + 1,
-            is_at(unclosed, above),
-        )?;
+        take_line(standing, alloc, line, above + 1, is_at(unclosed, above))?;
         rest = below;
         above += 1;
     }
-    Ok(standing)
+    Ok(())
 }
 
 /// Whether the line with so many lines above it is the one that was found.

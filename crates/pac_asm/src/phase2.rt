@@ -2,20 +2,24 @@
 
 ghost use Rattle.std.specs.Prelude.{◌≡◌, ◌≤◌, [], ◌∷◌, length, flat_map, All, IfOk, MatchOption};
 ghost use Rattle.std.specs.Prelude.{MatchResult, Ok};
+ghost use Rattle.std.specs.Result.{result_map_both};
 ghost use Rattle.std.specs.Str.Lines.{lines};
+ghost use Rattle.pac_asm_line.specs.Contents.{content_of};
+ghost use Rattle.pac_asm_line.specs.Views.{seen_statement};
+ghost use Rattle.pac_asm_program.specs.Names.{number_of_symbol};
 ghost use Rattle.pac_asm_program.specs.Programs.{items_in};
 ghost use Rattle.pac_asm_program.specs.Rom as rom;
 ghost use Rattle.pac_asm_program.specs.RomLaws as rom_laws;
 ghost use Rattle.pac_asm.specs.declared.place.LineLayout.TheVariants.{Placed};
 ghost use Rattle.pac_asm.specs.Errors.{LineGives, AssemblyFails};
-ghost use Rattle.pac_asm.specs.Items.{AllFit, FitsLine, IsLineOf};
+ghost use Rattle.pac_asm.specs.Items.{AllFit, FitsLine, IsLineOf, IsSized};
 ghost use Rattle.pac_asm.specs.Layouts.{ArePlacesApart};
 ghost use Rattle.pac_asm.specs.Phase2 as spec;
 ghost use Rattle.pac_asm.specs.Programs.{most_lines};
 
 use crate::fault::{AsmCode, AsmError, LineError};
 use crate::place::{LineLayout, Span};
-use pac_asm_line::form;
+use pac_asm_line::{Statement, form};
 use pac_asm_program::{Item, Line, Symbols};
 use pac_heap::Global;
 use pac_lex::{first_line, tokens};
@@ -92,10 +96,26 @@ fn placed_line(alloc: Global, symbols: &Symbols, line: &[u8], span: Span) -> Res
     ensures placed { IfOk result (IsLineOf (Placed span)) }
 {
     let tokens = tokens(alloc, line)?;
-    let Some(form) = form(&tokens) else {
-        return Err(LineError::Code(AsmCode::Syntax));
-    };
-    match form.statement.content(alloc, symbols, span.at, span.size)? {
+    match form(&tokens) {
+        None => Err(LineError::Code(AsmCode::Syntax)),
+        Some(form) => line_of(alloc, symbols, &form.statement, span),
+    }
+}
+
+/// A line of this statement, with its item.
+fn line_of(
+    alloc: Global,
+    symbols: &Symbols,
+    statement: &Statement<'_, '_>,
+    span: Span,
+) -> Result<Line, LineError>
+    requires { IsSized span.size (seen_statement statement.now) }
+    ensures exact { LineGives result (result_map_both (spec.line_of span.at) spec.code_of_fault
+        (content_of (number_of_symbol symbols.now) span.at span.size
+        (seen_statement statement.now))) }
+    ensures placed { IfOk result (IsLineOf (Placed span)) }
+{
+    match statement.content(alloc, symbols, span.at, span.size)? {
         None => Ok(Line::Blank),
         Some(content) => Ok(Line::Placed(Item::new(span.at, content))),
     }

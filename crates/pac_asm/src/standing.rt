@@ -1,14 +1,15 @@
 //! What the lines above leave to a line in the first phase.
 
 ghost use Rattle.std.specs.Prelude.{◌≡◌, ◌<◌, ◌≤◌, [], ◌∷◌, ◌++◌, length, nat_lt, None, option_map};
-ghost use Rattle.std.specs.Prelude.{IfOk, OnOk};
+ghost use Rattle.std.specs.Prelude.{IfOk, Ok};
 ghost use Rattle.pac_asm_program.specs.Programs.{rom_size};
 ghost use Rattle.pac_asm_line.specs.Statements as says;
 ghost use Rattle.pac_asm_line.specs.Views.{expression_tree};
 ghost use Rattle.pac_asm.specs.Conditions.{is_judged, most_open_ifs};
 ghost use Rattle.pac_asm.specs.Errors.{LineBecomes};
-ghost use Rattle.pac_asm.specs.Layouts.{IsFree, IsFreePlace};
+ghost use Rattle.pac_asm.specs.Layouts.{ArePlacesApart, IsFree, IsFreePlace};
 ghost use Rattle.pac_asm.specs.Phase1 as spec;
+ghost use Rattle.pac_asm.specs.Phase1Proofs.{known_place};
 ghost use Rattle.pac_asm.specs.Standings as above;
 
 use crate::condition::{Conditions, IfState};
@@ -56,26 +57,35 @@ impl Standing {
     pub(crate) fn start(alloc: Global, source: &[u8]) -> Result<Standing, AllocError>
         ensures { IfOk result (λ standing. standing ≡ above.first_standing) }
     {
+        let layout = Layout::new(alloc)?;
         Ok(Standing {
             at: 0,
             symbols: Symbols::new(alloc, source),
-            layout: Layout::new(alloc)?,
+            layout,
             conditions: Conditions::new(),
         })
     }
 
-    /// The names that are defined, and what became of the lines.
-    pub(crate) fn parts(self) -> (Symbols, Layout)
-        ensures symbols { result.0 ≡ self.symbols }
-        ensures places { result.1 ≡ self.places }
+    /// The names that are defined.
+    pub(crate) fn symbols(&self) -> &Symbols
+        ensures { result.now ≡ self.now.symbols }
     {
-        let Standing {
-            at: _,
-            symbols,
-            layout,
-            conditions: _,
-        } = self;
-        (symbols, layout)
+        &self.symbols
+    }
+
+    /// The names that are defined, and nothing else.
+    pub(crate) fn into_symbols(self) -> Symbols
+        ensures { result ≡ self.symbols }
+    {
+        self.symbols
+    }
+
+    /// What became of the lines.
+    pub(crate) fn places(&self) -> &[LineLayout]
+        ensures value { result.now ≡ self.now.places }
+        ensures apart { ArePlacesApart [] self.now.places }
+    {
+        self.layout.places()
     }
 
     /// The number of an expression whose names are all defined above.
@@ -90,6 +100,14 @@ impl Standing {
         }
     }
 
+    /// The address, or the count of bytes, that an expression gives whose names are all defined above.
+    pub(crate) fn known_place(&self, expression: &Expression<'_, '_>) -> Result<u16, AsmCode>
+        ensures value { result ≡ known_place self.now (expression_tree expression.now) }
+        ensures bound { IfOk result (λ at. at ≤ rom_size) }
+    {
+        within_rom(self.known(expression)?)
+    }
+
     /// Whether no line above defines a label.
     pub(crate) fn is_new(&self, label: Option<&[u8]>) -> bool
         ensures { result ≡ above.is_new self.now.symbols
@@ -101,29 +119,32 @@ impl Standing {
         }
     }
 
-    /// Defines a label, if there is one.
-    pub(crate) fn define(
+    /// Defines a label, if there is one, and adds what becomes of its line.
+    pub(crate) fn add_labelled(
         &mut self,
         alloc: Global,
         label: Option<&[u8]>,
         number: i32,
-    ) -> Result<(), AllocError>
-        ensures { OnOk result (self.new ≡ record self.old {
+        place: LineLayout,
+    ) -> Result<(), LineError>
+        requires { IsFreePlace self.old.places place }
+        ensures { LineBecomes result (Ok (record self.old {
           symbols = above.with_label self.old.symbols
               (option_map (λ name. name.now) label.entry) number;
-        }) }
+          places = self.old.places ++ place ∷ [];
+        })) self.new }
     {
         if let Some(name) = label {
             self.symbols.define(alloc, name, number)?;
         }
-        Ok(())
+        self.add(place)
     }
 
-    /// Adds what becomes of a line that has no bytes.
-    pub(crate) fn add(&mut self, place: LineLayout) -> Result<(), AllocError>
+    /// Adds what becomes of a line.
+    pub(crate) fn add(&mut self, place: LineLayout) -> Result<(), LineError>
         requires { IsFreePlace self.old.places place }
-        ensures { OnOk result (self.new ≡ record self.old
-            { places = self.old.places ++ place ∷ [] }) }
+        ensures { LineBecomes result (Ok (record self.old
+            { places = self.old.places ++ place ∷ [] })) self.new }
     {
         self.layout.push(place)?;
         Ok(())
@@ -186,8 +207,7 @@ impl Standing {
         ensures { LineBecomes result (spec.after_statement self.old None says.otherwise) self.new }
     {
         self.conditions.after_else()?;
-        self.layout.push(LineLayout::Blank)?;
-        Ok(())
+        self.add(LineLayout::Blank)
     }
 
     /// Takes an ENDIF that is judged.
@@ -196,8 +216,7 @@ impl Standing {
             self.new }
     {
         self.conditions.after_end()?;
-        self.layout.push(LineLayout::Blank)?;
-        Ok(())
+        self.add(LineLayout::Blank)
     }
 
     /// Takes a skipped line that begins with this word.
@@ -205,13 +224,12 @@ impl Standing {
         ensures { LineBecomes result (spec.after_passed self.old word) self.new }
     {
         self.conditions.after_skipped(word)?;
-        self.layout.push(LineLayout::Skipped)?;
-        Ok(())
+        self.add(LineLayout::Skipped)
     }
 }
 
 /// A number as an address, or a count of bytes, from 0 to 4000H.
-pub(crate) fn within_rom(number: i32) -> Result<u16, AsmCode>
+fn within_rom(number: i32) -> Result<u16, AsmCode>
     ensures value { result ≡ above.within_rom number }
     ensures bound { IfOk result (λ at. at ≤ rom_size) }
 {

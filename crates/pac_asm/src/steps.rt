@@ -1,20 +1,22 @@
 //! What the first phase does for a line, by the line's form.
 
 ghost use Rattle.std.specs.Prelude.{◌≡◌, None, option_map};
+ghost use Rattle.pac_lex.specs.TokensProofs.{views};
 ghost use Rattle.pac_asm_line.specs.Contents.{statement_size};
 ghost use Rattle.pac_asm_line.specs.Statements as says;
 ghost use Rattle.pac_asm_line.specs.Views.{expression_tree, seen_statement, seen_form};
 ghost use Rattle.pac_asm.specs.Conditions as condition;
 ghost use Rattle.pac_asm.specs.Errors.{LineBecomes};
 ghost use Rattle.pac_asm.specs.Phase1 as spec;
+ghost use Rattle.pac_asm.specs.Phase1Proofs.{after_tokens};
 
 use crate::condition::IfState;
 use crate::fault::{AsmCode, LineError};
 use crate::place::LineLayout;
-use crate::standing::{Standing, within_rom};
+use crate::standing::Standing;
 use pac_asm_line::{Conditional, Expression, Form, Statement, conditional_of, form};
 use pac_heap::Global;
-use pac_lex::tokens;
+use pac_lex::{Token, tokens};
 
 impl Standing {
     /// Takes a line by itself, whatever stands below it.
@@ -36,7 +38,14 @@ impl Standing {
         ensures { LineBecomes result (spec.after_judged self.old line.now) self.new }
     {
         let tokens = tokens(alloc, line)?;
-        match form(&tokens) {
+        self.after_tokens(alloc, &tokens)
+    }
+
+    /// Takes a line of these tokens.
+    fn after_tokens(&mut self, alloc: Global, tokens: &[Token<'_>]) -> Result<(), LineError>
+        ensures { LineBecomes result (after_tokens self.old (views tokens.now)) self.new }
+    {
+        match form(tokens) {
             None => Err(LineError::Code(AsmCode::Syntax)),
             Some(form) => self.after_form(alloc, &form),
         }
@@ -83,9 +92,7 @@ impl Standing {
         ensures { LineBecomes result (spec.after_statement self.old
             (option_map (λ name. name.now) label.entry) says.nothing) self.new }
     {
-        self.define(alloc, label, i32::from(self.at()))?;
-        self.add(LineLayout::Blank)?;
-        Ok(())
+        self.add_labelled(alloc, label, i32::from(self.at()), LineLayout::Blank)
     }
 
     /// Takes an ORG: the next line stands at its address.
@@ -93,10 +100,9 @@ impl Standing {
         ensures { LineBecomes result (spec.after_statement self.old None
             (says.origin (expression_tree place.now))) self.new }
     {
-        let at = within_rom(self.known(place)?)?;
+        let at = self.known_place(place)?;
         self.go_to(at);
-        self.add(LineLayout::Blank)?;
-        Ok(())
+        self.add(LineLayout::Blank)
     }
 
     /// Takes an EQU: its label stands for the value of its expression.
@@ -112,9 +118,7 @@ impl Standing {
             self.new }
     {
         let value = self.known(number)?;
-        self.define(alloc, label, value)?;
-        self.add(LineLayout::Blank)?;
-        Ok(())
+        self.add_labelled(alloc, label, value, LineLayout::Blank)
     }
 
     /// Takes an IF, which is open from there on.
@@ -127,8 +131,7 @@ impl Standing {
         }
         let value = self.known(test)?;
         self.push(condition_of(value));
-        self.add(LineLayout::Blank)?;
-        Ok(())
+        self.add(LineLayout::Blank)
     }
 
     /// Takes a DEFS, whose size is the value of its first expression.
@@ -143,7 +146,7 @@ impl Standing {
             (says.space (expression_tree size.now) None))
             self.new }
     {
-        let size = within_rom(self.known(size)?)?;
+        let size = self.known_place(size)?;
         self.after_item(alloc, label, size)
     }
 
@@ -173,10 +176,8 @@ impl Standing {
             (option_map (λ name. name.now) label.entry) size) self.new }
     {
         let span = self.room_for(size)?;
-        self.define(alloc, label, i32::from(span.at))?;
-        self.add(LineLayout::Placed(span))?;
         self.go_to(span.at + span.size);
-        Ok(())
+        self.add_labelled(alloc, label, i32::from(span.at), LineLayout::Placed(span))
     }
 }
 

@@ -1,6 +1,6 @@
 -- Lists of operands: what each of them is, where each is something.
 use Rattle.std.proofs.Common.{◌≡◌, ℕ, ◌<◌, ◌==◌, ◌&&◌, Bool, true, false, List, [], ◌∷◌, Option, Some, None, map, is_some, if◌then◌else◌}
-use Rattle.std.proofs.Common.{refl, arith, option_map, length, unwrap_or}
+use Rattle.std.proofs.Common.{refl, arith, option_map, length, unwrap_or, IfSome, ◌≤◌}
 use Rattle.std.proofs.lemmas.List.{length-map}
 use Rattle.std.specs.Option.{option_and_then, option_map_or, option_or}
 use Rattle.std.specs.List.{list_all, list_any, slice_split}
@@ -13,7 +13,7 @@ use Rattle.pac_expr.specs.Parsing.{tree_in}
 use Rattle.pac_asm_operation.specs.Reserved.{expression_in, is_reserved_token}
 use Rattle.pac_asm_operation.specs.Operands.{each_or_none, is_comma, parts_at_commas}
 use Rattle.pac_asm_line.specs.Statements.{DataPart, text, value, bytes, words}
-use Rattle.pac_asm_line.specs.Forms.{one_or_more, one_or_two, part_in, text_in}
+use Rattle.pac_asm_line.specs.Forms.{one_or_more, part_in, text_in}
 use Rattle.pac_asm_line.specs.Views.{part_of_tokens, spelled_tree}
 
 -- what an item and the items after it are together
@@ -30,28 +30,26 @@ each-all f g agree [] = refl
 each-all f g agree (x ∷ xs) =
     each-step g x xs (f x) (each_or_none f xs) (list_all (λ x. is_some (f x)) xs) (agree x) (each-all f g agree xs)
 
--- three operands or more are no space
-none-of-three : (size fill other : Option Tree) (others : Option (List Tree)) →
-    one_or_two (option_and_then (λ y. option_map (λ ys. y ∷ ys)
-    (option_and_then (λ y. option_map (λ ys. y ∷ ys) (option_and_then (λ y. option_map (λ ys. y ∷ ys) others) other)) fill)) size) ≡ None
-none-of-three None fill other others = refl
-none-of-three (Some x) None other others = refl
-none-of-three (Some x) (Some y) None others = refl
-none-of-three (Some x) (Some y) (Some z) None = refl
-none-of-three (Some x) (Some y) (Some z) (Some zs) = refl
-
-none-of-more : (f : List Lexeme → Option Tree) (a b : List Lexeme) (rest : List (List Lexeme)) → 0 < length rest →
-    one_or_two (each_or_none f (a ∷ b ∷ rest)) ≡ None
-none-of-more f a b [] filled = absurd (omega (arith, filled))
-none-of-more f a b (c ∷ rest) filled = none-of-three (f a) (f b) (f c) (each_or_none f rest)
-
 -- parting gives one part at least
 pub split-some : {X : Type 0} (p : X → Bool) (xs : List X) → 0 < length (slice_split p xs)
 split-some p xs = rw (length-slice_split p xs) (omega arith)
 
-pub too-many : (f : List Lexeme → Option Tree) (p : Lexeme → Bool) (a b : List Lexeme) (tokens : List Lexeme) →
-    one_or_two (each_or_none f (a ∷ b ∷ slice_split p tokens)) ≡ None
-too-many f p a b tokens = none-of-more f a b (slice_split p tokens) (split-some p tokens)
+-- expressions that something is, with one before them
+some-first : (n : ℕ) (first : Option Tree) (others : Option (List Tree)) → IfSome others (λ all. n ≤ length all) →
+    IfSome (option_and_then (λ y. option_map (λ ys. y ∷ ys) others) first) (λ all. n < length all)
+some-first n None others more = tt
+some-first n (Some x) None more = tt
+some-first n (Some x) (Some ys) more = omega arith
+
+none-or-more : (others : Option (List Tree)) → IfSome others (λ all. 0 ≤ length all)
+none-or-more None = tt
+none-or-more (Some ys) = omega arith
+
+pub too-many : (f : List Lexeme → Option Tree) (a : List Lexeme) (rest : List (List Lexeme)) → 0 < length rest →
+    IfSome (each_or_none f (a ∷ rest)) (λ all. 1 < length all)
+too-many f a [] filled = absurd (omega (arith, filled))
+too-many f a (b ∷ rest) filled =
+    some-first 1 (f a) (each_or_none f (b ∷ rest)) (some-first 0 (f b) (each_or_none f rest) (none-or-more (each_or_none f rest)))
 
 -- one operand or more
 one-or-more : {X Y : Type 0} (make : List X → Y) (all : Bool) (xs : List X) → 0 < length xs →

@@ -1,12 +1,17 @@
 -- The bytes of operands are as many as their form says.
-use Rattle.std.proofs.Common.{◌≡◌, ℕ, ℤ, ◌+◌, ◌*◌, List, [], ◌∷◌, ◌++◌, Option, Ok, Err, refl, ◌∙◌, arith, length, length-append}
+use Rattle.std.proofs.Common.{◌≡◌, ℕ, ℤ, ◌+◌, ◌*◌, List, [], ◌∷◌, ◌++◌, Option, Some, Ok, Err, refl, ◌∙◌, arith, length, length-append}
+use Rattle.std.proofs.Common.{IfOk, IfSome, Result}
 use Rattle.std.specs.List.{sum_by}
+use Rattle.std.specs.Result.{result_map_both}
 use Rattle.std.proofs.lemmas.List.Sums.{sum_by-cons}
 use Rattle.pac_expr.specs.Trees.{Tree}
 use Rattle.pac_num.specs.Numbers.{low_byte, high_byte}
 use Rattle.pac_asm_line.specs.Statements.{DataPart, text, value}
 use Rattle.pac_asm_line.specs.Contents.{OrFault, byte_value, gathered_bytes, joined_bytes, map_unless_fault, part_bytes, part_size}
 use Rattle.pac_asm_line.specs.Contents.{word_bytes, word_value}
+use Rattle.pac_asm_line.specs.Gathered.{ContentGives}
+use Rattle.pac_asm_line.specs.declared.gathered.ContentError.{ContentError}
+use Rattle.pac_code.specs.Items.{Data, IsValid, bytes_in}
 
 -- bytes joined to others
 joined-length : (a b : OrFault (List ℕ)) (m n : ℕ) (bytes : List ℕ) →
@@ -57,3 +62,11 @@ pub words-length : (names : List ℕ → Option ℤ) (here : ℕ) (trees : List 
     gathered_bytes (word_bytes names here) trees ≡ Ok bytes → length bytes ≡ 2 * length trees
 words-length names here trees bytes same =
     gathered-length (word_bytes names here) (λ tree. 2) (word-length names here) trees bytes same ∙ two-each trees
+
+-- bytes that are placed, where those that are given have so many
+pub sized-as : {X : Type 0} (view : X → List ℕ) (found : Result X ContentError) (given : OrFault (List ℕ)) (size : ℕ) →
+    ContentGives view found given → ((bytes : List ℕ) → given ≡ Ok bytes → length bytes ≡ size) →
+    IfOk (result_map_both (λ v. Some (Data (view v))) (λ error. error) found)
+    (λ placed. IfSome placed (λ content. IsValid content × (length (bytes_in content) ≡ size)))
+sized-as view (Ok v) given size e fits = (tt, fits (view v) e)
+sized-as view (Err error) given size e fits = tt

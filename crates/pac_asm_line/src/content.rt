@@ -1,8 +1,11 @@
 //! What a statement places.
 
 ghost use Rattle.std.specs.Prelude.{◌≡◌, IfOk, IfSome, Ok, Some, length, option_map, replicate};
+ghost use Rattle.std.specs.Result.{result_map_both};
+ghost use Rattle.pac_lex.specs.TextsProofs.{characters_of};
 ghost use Rattle.pac_lex.specs.TokensProofs.{views};
 ghost use Rattle.pac_code.specs.Items.{Code, Data, IsValid, bytes_in};
+ghost use Rattle.pac_asm_line.specs.declared.gathered.ContentError.TheVariants as errors;
 ghost use Rattle.pac_asm_line.specs.Contents.{content_of, fill_value, gathered_bytes, joined_bytes};
 ghost use Rattle.pac_asm_line.specs.Contents.{map_unless_fault, part_bytes};
 ghost use Rattle.pac_asm_line.specs.Contents.{word_bytes};
@@ -43,28 +46,35 @@ impl<'t, 'a> Statement<'t, 'a> {
             (λ content. IsValid content × (length (bytes_in content) ≡ size))) }
     {
         match self {
-            Statement::Bytes(operands) => placed(bytes_of(alloc, *operands, symbols, here)?),
-            Statement::Text(written) => placed(characters(alloc, written)?),
-            Statement::Words(operands) => placed(words_of(alloc, *operands, symbols, here)?),
-            Statement::Space(_, fill) => placed(space_of(alloc, fill, symbols, here, size)?),
-            Statement::Operation(operation) => coded(operation.instruction(symbols, here)?),
+            Statement::Bytes(operands) => placed(bytes_of(alloc, *operands, symbols, here)),
+            Statement::Text(written) => placed(text_of(alloc, written)),
+            Statement::Words(operands) => placed(words_of(alloc, *operands, symbols, here)),
+            Statement::Space(_, fill) => placed(space_of(alloc, fill, symbols, here, size)),
+            Statement::Operation(operation) => coded(operation.instruction(symbols, here)),
             _ => Ok(None),
         }
     }
 }
 
-/// Bytes as what is placed.
-fn placed(bytes: Vec<u8, Global>) -> Result<Option<Content>, ContentError>
-    ensures { result ≡ Ok (Some (Data bytes.items)) }
+/// Bytes as what is placed, unless there are none to place.
+fn placed(bytes: Result<Vec<u8, Global>, ContentError>) -> Result<Option<Content>, ContentError>
+    ensures { result ≡ result_map_both (λ v. Some (Data v.items)) (λ error. error) bytes }
 {
-    Ok(Some(Content::data(bytes)))
+    Ok(Some(Content::data(bytes?)))
 }
 
-/// An instruction as what is placed.
-fn coded(instr: Instr) -> Result<Option<Content>, ContentError>
-    ensures { result ≡ Ok (Some (Code instr)) }
+/// An instruction as what is placed, unless there is none.
+fn coded(instr: Result<Instr, OperationFault>) -> Result<Option<Content>, ContentError>
+    ensures { result ≡ result_map_both (λ i. Some (Code i)) errors.Fault instr }
 {
-    Ok(Some(Content::code(instr)))
+    Ok(Some(Content::code(instr?)))
+}
+
+/// The characters of a text, whose bytes stand here with their quotes.
+fn text_of(alloc: Global, written: &[u8]) -> Result<Vec<u8, Global>, ContentError>
+    ensures { ContentGives (λ v. v.items) result (Ok (characters_of written.now)) }
+{
+    Ok(characters(alloc, written)?)
 }
 
 /// The bytes of a DEFB.

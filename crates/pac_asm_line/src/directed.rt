@@ -1,17 +1,19 @@
 //! The statements of directives, from the tokens after them.
 
-ghost use Rattle.std.specs.Prelude.{◌≡◌, option_map, option_copied};
+ghost use Rattle.std.specs.Prelude.{◌≡◌, ◌<◌, ◌∷◌, [], IfSome, MatchOption, Some, length, option_map};
+ghost use Rattle.std.specs.List.{slice_split};
 ghost use Rattle.pac_lex.specs.TokensProofs.{views};
 ghost use Rattle.pac_lex.specs.TextsProofs.{characters_of};
 ghost use Rattle.pac_expr.specs.Trees.{Tree};
-ghost use Rattle.pac_asm_operation.specs.Operands.{each_or_none, parts_at_commas};
+ghost use Rattle.pac_asm_operation.specs.Operands.{each_or_none, is_comma, parts_at_commas};
 ghost use Rattle.pac_asm_operation.specs.Reserved.{expression_in};
 ghost use Rattle.pac_asm_line.specs.Statements as says;
 ghost use Rattle.pac_asm_line.specs.Forms.{directive_statement, one_or_more, one_or_two, part_in};
 ghost use Rattle.pac_asm_line.specs.Forms.{text_in, no_operands};
+ghost use Rattle.pac_asm_line.specs.Views.{expression_tree};
 ghost use Rattle.pac_asm_line.specs.Views as view;
 
-use crate::expression::expression_in;
+use crate::expression::{Expression, expression_in};
 use crate::operands::{bytes_in, text_in, words_in};
 use crate::statement::Statement;
 use pac_asm_operation::{Directive, next_part};
@@ -63,13 +65,22 @@ fn space_in<'t, 'a>(tokens: &'t [Token<'a>]) -> Option<Statement<'t, 'a>>
     }
     let (first, after) = next_part(tokens);
     let size = expression_in(first)?;
-    let Some(rest) = after else {
-        return Some(Statement::Space(size, None));
-    };
-    let (second, after) = next_part(rest);
-    let fill = expression_in(second)?;
     match after {
-        None => Some(Statement::Space(size, Some(fill))),
+        None => Some(Statement::Space(size, None)),
+        Some(rest) => Some(Statement::Space(size, Some(last_expression(rest)?))),
+    }
+}
+
+/// The expression that tokens spell, where no comma parts them.
+fn last_expression<'t, 'a>(tokens: &'t [Token<'a>]) -> Option<Expression<'t, 'a>>
+    ensures { let trees = each_or_none expression_in (slice_split is_comma (views tokens.now)) in
+        MatchOption result (IfSome trees (λ all. 1 < length all))
+        (λ found. trees ≡ Some (expression_tree found ∷ [])) }
+{
+    let (part, after) = next_part(tokens);
+    let last = expression_in(part)?;
+    match after {
+        None => Some(last),
         Some(_) => None,
     }
 }

@@ -27,9 +27,9 @@ impl fmt::Display for ValueError {
     /// The code: `E1`, `E2` or `E3`.
     fn fmt<W: fmt::Write>(&self, f: &mut fmt::Formatter<W>) -> fmt::Result {
         match self {
-            ValueError::Undefined => write!(f, "E1"),
-            ValueError::OutOfRange => write!(f, "E2"),
-            ValueError::DivisionByZero => write!(f, "E3"),
+            ValueError::Undefined => f.write_str("E1"),
+            ValueError::OutOfRange => f.write_str("E2"),
+            ValueError::DivisionByZero => f.write_str("E3"),
         }
     }
 }

@@ -35,10 +35,10 @@ impl fmt::Display for LexFault {
 
     fn fmt<W: fmt::Write>(&self, f: &mut fmt::Formatter<W>) -> fmt::Result {
         match self {
-            LexFault::NoToken => write!(f, "L1"),
-            LexFault::WrongNumber => write!(f, "L2"),
-            LexFault::OpenText => write!(f, "L3"),
-            LexFault::LongLine => write!(f, "L4"),
+            LexFault::NoToken => f.write_str("L1"),
+            LexFault::WrongNumber => f.write_str("L2"),
+            LexFault::OpenText => f.write_str("L3"),
+            LexFault::LongLine => f.write_str("L4"),
         }
     }
 }

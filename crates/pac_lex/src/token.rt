@@ -1,7 +1,7 @@
 //! The tokens.
 
 /// What a token is.
-#[derive(Clone, Copy, Debug, PartialEq, Eq)]
+#[derive(Clone, Copy)]
 pub enum TokenKind {
     /// A letter or `_`, then letters, digits and `_`.
     Name,
@@ -32,7 +32,7 @@ pub enum TokenKind {
 }
 
 /// A token of a line, with the bytes of the line that it is written in.
-#[derive(Clone, Copy, Debug)]
+#[derive(Clone, Copy)]
 pub struct Token<'a> {
     /// What it is.
     pub kind: TokenKind,

@@ -1,7 +1,7 @@
 use Rattle.std.proofs.Common.{arith, rules}
 use Rattle.std.proofs.lemmas.Result.{err_from_is_err_and}
 use Rattle.pac_asm.proofs.Laying.{onward, ends, finished}
-use Rattle.pac_asm.proofs.phase1.lay_out.Goals as goal
+use Rattle.pac_asm.proofs.phase1.take_lines.Goals as goal
 
 pub loop-line-init : goal.loop-line-init
 loop-line-init c = search rules
