@@ -1,4 +1,5 @@
 pub mod Reading
+pub mod Recorded
 pub mod Performed
 pub mod Unbegun
 pub mod Failing

@@ -1,10 +1,12 @@
 pub mod Endings
+pub mod EndingsProofs
 pub mod Failures
 pub mod FailuresProofs
 pub mod Machine
 pub mod Making
 pub mod Outputs
 pub mod OutputsProofs
+pub mod RecordedProofs
 pub mod Programs
 pub mod Texts
 pub mod Works

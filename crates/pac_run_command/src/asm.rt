@@ -1,6 +1,7 @@
 //! `asm`: a source becomes a ROM file and a listing.
 
-ghost use Rattle.std.specs.Prelude.{◌≡◌};
+ghost use Rattle.std.specs.Prelude.{◌≡◌, Ok};
+ghost use Rattle.pac_asm.specs.Programs.{program_of};
 ghost use Rattle.pac_listing.specs.Listing as texts;
 ghost use Rattle.pac_run.specs.Recorded.{WritesWholeText};
 ghost use Rattle.pac_run_options.specs.CommandLineProofs.{told_asm};
@@ -39,6 +40,26 @@ fn put_listing<L: Out>(listing: &mut L, program: &Program, source: &[u8]) -> Res
     written
 }
 
+/// Writes the ROM of a source's program, and then its listing.
+fn put_program<R: Out, L: Out>(
+    program: &Program,
+    source: &[u8],
+    rom: &mut R,
+    listing: &mut L,
+) -> Result<(), Failure<'static>>
+    requires { program_of source.now ≡ Ok program.now }
+    ensures { Assembles source.now (writing R.took R.refused rom.old rom.new)
+        (writing L.took L.refused listing.old listing.new) result }
+{
+    if let Err(fault) = put_rom(rom, program) {
+        return Err(Failure::Write(Target::Rom, fault.count));
+    }
+    match put_listing(listing, program, source) {
+        Ok(()) => Ok(()),
+        Err(fault) => Err(Failure::Write(Target::Of(Output::Listing), fault.count)),
+    }
+}
+
 /// Assembles a source, and writes the 16,384 bytes of its ROM, and then its listing. The source is judged and all
 /// memory is found before anything is written.
 pub fn write_program<R: Out, L: Out>(
@@ -50,17 +71,10 @@ pub fn write_program<R: Out, L: Out>(
     ensures { Assembles source.now (writing R.took R.refused rom.old rom.new)
         (writing L.took L.refused listing.old listing.new) result }
 {
-    let program = match assemble(alloc, source) {
-        Ok(program) => program,
-        Err(AsmError::Fault(fault)) => return Err(Failure::Source(fault)),
-        Err(AsmError::Memory) => return Err(Failure::Memory),
-    };
-    if let Err(fault) = put_rom(rom, &program) {
-        return Err(Failure::Write(Target::Rom, fault.count));
-    }
-    match put_listing(listing, &program, source) {
-        Ok(()) => Ok(()),
-        Err(fault) => Err(Failure::Write(Target::Of(Output::Listing), fault.count)),
+    match assemble(alloc, source) {
+        Ok(program) => put_program(&program, source, rom, listing),
+        Err(AsmError::Fault(fault)) => Err(Failure::Source(fault)),
+        Err(AsmError::Memory) => Err(Failure::Memory),
     }
 }
 

@@ -1,22 +1,20 @@
 //! `debug`: a run under a debugger, whose commands a file has.
 
 ghost use Rattle.std.specs.Prelude.{◌≡◌, ◌≤◌};
-ghost use Rattle.pac_run_options.specs.CommandLineProofs.{told_debug, told_run};
+ghost use Rattle.pac_run_options.specs.CommandLineProofs.{told_debug};
+ghost use Rattle.pac_run_command.specs.EndingsProofs.{ending_told};
 ghost use Rattle.pac_run_command.specs.Failures as told;
-ghost use Rattle.pac_run_command.specs.Outputs.{RecordsRun, WatchesRun, from_power_on};
+ghost use Rattle.pac_run_command.specs.Outputs.{WatchesRun};
 ghost use Rattle.pac_run.specs.Run.{writing, writings};
 ghost use Rattle.pac_run_command.specs.Programs.{PerformsWatched, watching};
 
 use crate::failure::{Failure, failure_of, read_failure};
-use crate::given::inputs_of;
-use crate::outputs::{Outputs, begin_outputs, outputs_of, settle};
-use crate::play::end;
+use crate::outputs::Outputs;
 use crate::program::tell;
+use crate::record::{Manner, run_given};
 use crate::teller::Teller;
 use pac_run::{Out, Outcome, RunInputs, Writers, debug_all};
-use pac_run_files::{
-    FileSystem, Given, NamedFile, manifest_in, parts_of, read_parts, read_watched,
-};
+use pac_run_files::{FileSystem, read_watched};
 use pac_run_options::{DebugFiles, PlayFiles};
 use std::alloc::Global;
 
@@ -39,7 +37,7 @@ pub fn debug_inputs<F: Out, W: Out, L: Out, R: Out, T: Out>(
 }
 
 /// A run under a debugger over the files of its outputs; report and text go to standard output.
-fn debug_over<F: Out, R: Out, T: Out>(
+pub(crate) fn debug_over<F: Out, R: Out, T: Out>(
     alloc: Global,
     inputs: &RunInputs,
     commands: &[u8],
@@ -60,42 +58,6 @@ fn debug_over<F: Out, R: Out, T: Out>(
     debug_inputs(alloc, inputs, commands, &mut to, text)
 }
 
-/// Begins the outputs, runs what was read under the debugger, and settles what becomes of them.
-pub fn record_watched<D: FileSystem, R: Out, T: Out>(
-    alloc: Global,
-    disk: &mut D,
-    report: &mut R,
-    text: &mut T,
-    files: &DebugFiles,
-    given: &Given,
-    commands: &[u8],
-    named: &[NamedFile],
-) -> Result<Outcome, Failure<'static>>
-    ensures { RecordsRun D.handling
-        (watching D.File.took D.File.refused (writing R.took R.refused report.old report.new)
-        (writing T.took T.refused text.old text.new) commands.now)
-        ((report.new ≡ report.old) × (text.new ≡ text.old))
-        (from_power_on (told_run files.now.run)) given.now named.now
-        disk.old result disk.new }
-{
-    let Ok(parts) = parts_of(alloc, named) else {
-        return Err(Failure::Memory);
-    };
-    let inputs = inputs_of(&files.run, given, &parts);
-    let files = PlayFiles {
-        run: files.run,
-        load: None,
-        save: None,
-    };
-    let wanted = outputs_of(&files);
-    let mut outputs = match begin_outputs(disk, &wanted) {
-        Ok(outputs) => outputs,
-        Err(failure) => return Err(failure),
-    };
-    let ran = debug_over(alloc, &inputs, commands, &mut outputs, report, text);
-    settle(disk, &wanted, outputs, ran)
-}
-
 /// Runs what the files of a command line hold under a debugger, and answers the exit status. All is read before an output is
 /// created: source, manifest, script, commands, and the files that the manifest names.
 #[inline(never)]
@@ -111,29 +73,20 @@ pub fn debug<D: FileSystem, R: Out, T: Out, C: Teller>(
         (watching D.File.took D.File.refused (writing R.took R.refused report.old report.new)
         (writing T.took T.refused text.old text.new))
         ((report.new ≡ report.old) × (text.new ≡ text.old))
-        (record {
-          tells = C.tells;
-          explains = C.explains;
-          old = console.old;
-          new = console.new;
-          status = result;
-        })
+        (ending_told C.tells C.explains console.old console.new result)
         (told_debug files.now) disk.old disk.new }
     ensures most { result ≤ told.most_status }
 {
-    let (given, commands) = match read_watched(alloc, disk, files) {
-        Ok(read) => read,
-        Err(fault) => return tell(console, read_failure(fault)),
-    };
-    let Ok(manifest) = manifest_in(alloc, &given.manifest) else {
-        return tell(console, Failure::Memory);
-    };
-    let named = match read_parts(alloc, disk, files.run.set, &manifest) {
-        Ok(named) => named,
-        Err(fault) => return tell(console, read_failure(fault)),
-    };
-    end(
-        console,
-        record_watched(alloc, disk, report, text, files, &given, &commands, &named),
-    )
+    match read_watched(alloc, disk, files) {
+        Ok((given, commands)) => {
+            let run = PlayFiles {
+                run: files.run,
+                load: None,
+                save: None,
+            };
+            let manner = Manner::Watched(&commands);
+            run_given(alloc, disk, report, text, console, &run, &given, manner)
+        }
+        Err(fault) => tell(console, read_failure(fault)),
+    }
 }

@@ -10,6 +10,7 @@ pub mod laws;
 mod outputs;
 mod play;
 mod program;
+mod record;
 mod standard;
 mod teller;
 

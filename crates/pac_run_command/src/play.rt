@@ -3,20 +3,21 @@
 
 ghost use Rattle.std.specs.Prelude.{◌≡◌, ◌≤◌, ◌||◌, is_some, option_copied};
 ghost use Rattle.pac_run_options.specs.CommandLineProofs.{told_play};
-ghost use Rattle.pac_run_command.specs.Endings.{RunEnds};
+ghost use Rattle.pac_run_command.specs.EndingsProofs.{ending_told};
 ghost use Rattle.pac_run_command.specs.Failures as told;
-ghost use Rattle.pac_run_command.specs.Outputs.{PlaysRun, RecordsRun};
+ghost use Rattle.pac_run_command.specs.Outputs.{PlaysRun};
 ghost use Rattle.pac_run.specs.Run.{writing, writings};
 ghost use Rattle.pac_run.specs.Writes.{refused_if_there, took_if_there};
 ghost use Rattle.pac_run_command.specs.Programs.{PerformsRun, RunsOrResumes, performing};
 
-use crate::failure::{Failure, end_status, failure_of, read_failure};
-use crate::given::{bytes_in, inputs_of};
-use crate::outputs::{Outputs, begin_outputs, outputs_of, settle};
+use crate::failure::{Failure, failure_of, read_failure};
+use crate::given::bytes_in;
+use crate::outputs::Outputs;
 use crate::program::tell;
+use crate::record::{Manner, run_given};
 use crate::teller::Teller;
 use pac_run::{Out, Outcome, RunFault, RunInputs, Writers, resume_all, run_all};
-use pac_run_files::{FileSystem, Given, NamedFile, manifest_in, parts_of, read_parts, read_played};
+use pac_run_files::{FileSystem, read_played};
 use pac_run_options::PlayFiles;
 use std::alloc::Global;
 
@@ -65,7 +66,7 @@ pub fn run_inputs<F: Out, W: Out, L: Out, R: Out, S: Out>(
 }
 
 /// A run over the files of its outputs; the report goes to standard output.
-fn run_over<F: Out, R: Out>(
+pub(crate) fn run_over<F: Out, R: Out>(
     alloc: Global,
     inputs: &RunInputs,
     from: Option<&[u8]>,
@@ -85,89 +86,29 @@ fn run_over<F: Out, R: Out>(
     run_inputs(alloc, inputs, from, &mut to, &mut outputs.state)
 }
 
-/// Begins the outputs, runs what was read, and settles what becomes of them.
-pub fn record<D: FileSystem, R: Out>(
-    alloc: Global,
-    disk: &mut D,
-    report: &mut R,
-    files: &PlayFiles,
-    given: &Given,
-    from: Option<&[u8]>,
-    named: &[NamedFile],
-) -> Result<Outcome, Failure<'static>>
-    ensures { RecordsRun D.handling
-        (performing D.File.took D.File.refused (writing R.took R.refused report.old report.new)
-        (option_copied from.entry))
-        (report.new ≡ report.old) (told_play files.now) given.now named.now
-        disk.old result disk.new }
-{
-    let Ok(parts) = parts_of(alloc, named) else {
-        return Err(Failure::Memory);
-    };
-    let inputs = inputs_of(&files.run, given, &parts);
-    let wanted = outputs_of(files);
-    let mut outputs = match begin_outputs(disk, &wanted) {
-        Ok(outputs) => outputs,
-        Err(failure) => return Err(failure),
-    };
-    let ran = run_over(alloc, &inputs, from, &mut outputs, report);
-    settle(disk, &wanted, outputs, ran)
-}
-
-/// The status of a run that ended or failed; a failure is told.
-pub(crate) fn end<C: Teller>(console: &mut C, ran: Result<Outcome, Failure>) -> u8
-    ensures ends { RunEnds (record {
-      tells = C.tells;
-      explains = C.explains;
-      old = console.old;
-      new = console.new;
-      status = result;
-    })
-        ran.entry }
-    ensures most { result ≤ told.most_status }
-{
-    match ran {
-        Ok(outcome) => end_status(outcome.stop),
-        Err(failure) => tell(console, failure),
-    }
-}
-
 /// Runs what the files of a command line hold, and answers the exit status. All is read before an output is created: source,
 /// manifest, script, the state that the run begins from, if one is named, and the files that the manifest names.
 #[inline(never)]
-pub fn play<D: FileSystem, R: Out, C: Teller>(
+pub fn play<D: FileSystem, R: Out, T: Out, C: Teller>(
     alloc: Global,
     disk: &mut D,
     report: &mut R,
+    text: &mut T,
     console: &mut C,
     files: &PlayFiles,
 ) -> u8
     ensures plays { PlaysRun (D.finds disk.old) D.handling
         (performing D.File.took D.File.refused (writing R.took R.refused report.old report.new))
-        (report.new ≡ report.old)
-        (record {
-          tells = C.tells;
-          explains = C.explains;
-          old = console.old;
-          new = console.new;
-          status = result;
-        })
+        (report.new ≡ report.old) (ending_told C.tells C.explains console.old console.new result)
         (told_play files.now) disk.old disk.new }
+    ensures untold { text.new ≡ text.old }
     ensures most { result ≤ told.most_status }
 {
-    let (given, state) = match read_played(alloc, disk, files) {
-        Ok(read) => read,
-        Err(fault) => return tell(console, read_failure(fault)),
-    };
-    let Ok(manifest) = manifest_in(alloc, &given.manifest) else {
-        return tell(console, Failure::Memory);
-    };
-    let named = match read_parts(alloc, disk, files.run.set, &manifest) {
-        Ok(named) => named,
-        Err(fault) => return tell(console, read_failure(fault)),
-    };
-    end(
-        console,
-        record(alloc, disk, report, files, &given, bytes_in(&state), &named),
-    )
+    match read_played(alloc, disk, files) {
+        Ok((given, state)) => {
+            let manner = Manner::Played(bytes_in(&state));
+            run_given(alloc, disk, report, text, console, files, &given, manner)
+        }
+        Err(fault) => tell(console, read_failure(fault)),
+    }
 }

@@ -4,6 +4,7 @@ ghost use Rattle.std.specs.Prelude.{◌≡◌, ◌≢◌, ◌≤◌, [], map, st
 ghost use Rattle.clap.specs.Words.{kind_of};
 ghost use Rattle.pac_run_options.specs.CommandLine.{faults_of, request_of};
 ghost use Rattle.pac_run_command.specs.Endings.{FailureEnds, WordsEnd, WorkEnds};
+ghost use Rattle.pac_run_command.specs.EndingsProofs.{ending_told};
 ghost use Rattle.pac_run_command.specs.Failures as told;
 ghost use Rattle.pac_run_command.specs.Machine.{IsUnheard, RunsOn, WorksOn};
 ghost use Rattle.pac_run.specs.Run.{writing};
@@ -60,14 +61,7 @@ fn words_of<R: Env + AllocGlobal>(rt: &R) -> io::Result<Vec<String>> {
 
 /// Tells that the words can't be had, and answers the status.
 fn tell_words<C: Teller>(console: &mut C, kind: io::ErrorKind) -> u8
-    ensures unheard { IsUnheard
-        (record {
-          tells = C.tells;
-          explains = C.explains;
-          old = console.old;
-          new = console.new;
-          status = result;
-        }) }
+    ensures unheard { IsUnheard (ending_told C.tells C.explains console.old console.new result) }
     ensures most { result ≤ told.most_status }
 {
     if kind == io::ErrorKind::OutOfMemory {
@@ -87,13 +81,7 @@ pub(crate) fn work_unkept<D: FileSystem, C: Teller>(
     ensures status { result ≤ told.most_status }
     ensures works { WorksUnkept (without_output (D.finds disk.old) D.handling
         (assembling D.File.took D.File.refused)
-        (record {
-          tells = C.tells;
-          explains = C.explains;
-          old = console.old;
-          new = console.new;
-          status = result;
-        }))
+        (ending_told C.tells C.explains console.old console.new result))
         (faults_of (map string_bytes words.now))
         (request_of (map string_bytes words.now)) disk.old disk.new }
 {
@@ -171,7 +159,7 @@ pub fn work<D: FileSystem, R: Out, T: Out, C: Teller>(
 {
     match options(alloc, words) {
         Ok(Request::Asm(files)) => end(console, asm(alloc, disk, &files)),
-        Ok(Request::Run(files)) => play(alloc, disk, report, console, &files),
+        Ok(Request::Run(files)) => play(alloc, disk, report, text, console, &files),
         Ok(Request::Debug(files)) => debug(alloc, disk, report, text, console, &files),
         Ok(Request::Dis(name)) => end(console, dis(alloc, disk, text, name)),
         Err(error) => explain(console, &error),
@@ -180,13 +168,7 @@ pub fn work<D: FileSystem, R: Out, T: Out, C: Teller>(
 
 /// Tells a failure, and answers its status.
 pub(crate) fn tell<C: Teller>(console: &mut C, failure: Failure) -> u8
-    ensures fails { FailureEnds (record {
-      tells = C.tells;
-      explains = C.explains;
-      old = console.old;
-      new = console.new;
-      status = result;
-    })
+    ensures fails { FailureEnds (ending_told C.tells C.explains console.old console.new result)
         failure.entry }
     ensures most { result ≤ told.most_status }
 {
@@ -196,13 +178,7 @@ pub(crate) fn tell<C: Teller>(console: &mut C, failure: Failure) -> u8
 
 /// Tells that an output refused after so many bytes, and answers the status.
 fn refuse<C: Teller>(console: &mut C, output: Output, count: u64) -> u8
-    ensures fails { FailureEnds (record {
-      tells = C.tells;
-      explains = C.explains;
-      old = console.old;
-      new = console.new;
-      status = result;
-    })
+    ensures fails { FailureEnds (ending_told C.tells C.explains console.old console.new result)
         (Write (Of output) count) }
     ensures most { result ≤ told.most_status }
 {
@@ -211,13 +187,7 @@ fn refuse<C: Teller>(console: &mut C, output: Output, count: u64) -> u8
 
 /// The status of work that is done or that failed; a failure is told.
 fn end<C: Teller>(console: &mut C, done: Result<(), Failure>) -> u8
-    ensures ends { WorkEnds (record {
-      tells = C.tells;
-      explains = C.explains;
-      old = console.old;
-      new = console.new;
-      status = result;
-    })
+    ensures ends { WorkEnds (ending_told C.tells C.explains console.old console.new result)
         done.entry }
     ensures most { result ≤ told.most_status }
 {
@@ -230,13 +200,7 @@ fn end<C: Teller>(console: &mut C, done: Result<(), Failure>) -> u8
 /// Tells why the words are no command line, or what they ask to be told of it; where that can't be written to standard output,
 /// this is told as a failure.
 fn explain<C: Teller>(console: &mut C, error: &clap::Error) -> u8
-    ensures ends { WordsEnd (record {
-      tells = C.tells;
-      explains = C.explains;
-      old = console.old;
-      new = console.new;
-      status = result;
-    })
+    ensures ends { WordsEnd (ending_told C.tells C.explains console.old console.new result)
         (kind_of error.now) }
     ensures status { told.IsLineStatus (kind_of error.now) result }
 {

@@ -1,49 +1,14 @@
-use Rattle.std.proofs.Common.{inl, inr, refl, Vec, Global}
-use Rattle.pac_run_options.specs.CommandLineProofs.{told_run}
-use Rattle.pac_run_files.specs.Read.{HasParts, manifest_part_names}
-use Rattle.pac_run_files.specs.declared.parts.NamedFile.{NamedFile}
-use Rattle.pac_run_command.specs.declared.failure.Failure.TheVariants.{Memory}
-use Rattle.pac_run_command.proofs.Reading.{unread-reason, part-unread, all-read}
+use Rattle.std.proofs.Common.{◌≡◌}
+use Rattle.pac_run.specs.Run.{writing}
+use Rattle.pac_run_options.specs.CommandLineProofs.{told_play}
+use Rattle.pac_run_command.specs.EndingsProofs.{ending_told}
+use Rattle.pac_run_command.proofs.Recorded.{once-played}
 use Rattle.pac_run_command.proofs.play.play.Goals as goal
 
-pub returns-in-Err-read_parts-clause-plays : goal.returns-in-Err-read_parts-clause-plays
-returns-in-Err-read_parts-clause-plays g c =
-    let finds = g.D.FileSystem.finds c.args.disk.now in
-    let unread = part-unread finds (told_run c.args.files.now.run) c.in-Ok.read.0 c.in-Ok.ensures.0 c.deref.result.now
-    c.in-Ok-manifest_in.manifest c.deref.ensures.value c.in-Ok-manifest_in.ensures in
-    inl (record {
-      failure = c.read_failure-in-Err-read_parts.result;
-      reason = unread-reason {A = Vec NamedFile Global}
-          (λ parts. HasParts finds c.args.files.now.run.set.now (manifest_part_names c.in-Ok-manifest_in.manifest) parts.items) _ _
-          c.in-Err-read_parts.fault c.read_failure-in-Err-read_parts.result
-          (λ name first. inr (record { last = c.in-Ok.read.1; is_had = c.in-Ok.ensures.1; holds = unread name first }))
-          c.in-Err-read_parts.ensures c.read_failure-in-Err-read_parts.ensures;
-      fails = c.tell-in-Err-read_parts.ensures.fails;
-      unchanged = refl;
-      is_silent = refl;
-    })
-
-pub returns-in_default-clause-plays : goal.returns-in_default-clause-plays
-returns-in_default-clause-plays g c = inl (record {
-  failure = Memory;
-  reason = tt;
-  fails = c.tell-in_default.ensures.fails;
-  unchanged = refl;
-  is_silent = refl;
-})
-
-pub returns-clause-plays : goal.returns-clause-plays
-returns-clause-plays g c = inr (record {
-  last = c.in-Ok.read.1;
-  is_had = c.in-Ok.ensures.1;
-  holds = record {
-    given = c.in-Ok.read.0;
-    parts = c.deref-2.result.now;
-    read = all-read (g.D.FileSystem.finds c.args.disk.now) (told_run c.args.files.now.run) c.in-Ok.read.0 c.in-Ok.ensures.0
-        c.deref.result.now c.in-Ok-manifest_in.manifest c.deref.ensures.value c.in-Ok-manifest_in.ensures c.deref-2.result.now
-        c.in-Ok-read_parts.named.items c.deref-2.ensures.value c.in-Ok-read_parts.ensures;
-    answer = c.record.result;
-    records = rw (← c.bytes_in.ensures) c.record.ensures;
-    ends = c.end.ensures.ends;
-  };
-})
+pub returns-in-Ok-clause-plays : goal.returns-in-Ok-clause-plays
+returns-in-Ok-clause-plays g c =
+    once-played (g.D.FileSystem.finds c.args.disk.now) g.D.FileSystem.handling g.D.File.Out.took g.D.File.Out.refused
+    (writing g.R.Out.took g.R.Out.refused c.args.report.now c.run_given.new.report) (c.run_given.new.report ≡ c.args.report.now)
+    (ending_told g.C.Teller.tells g.C.Teller.explains c.args.console.now c.run_given.new.console c.run_given.result)
+    c.args.disk.now c.run_given.new.disk (told_play c.args.files.now) c.bytes_in.result c.in-Ok.state c.bytes_in.ensures
+    c.in-Ok.ensures.1 c.run_given.ensures.runs

@@ -1,0 +1,69 @@
+-- A run of what was read, by itself or under a debugger.
+use Rattle.std.proofs.Common.{◌≡◌, inl, inr, ℕ, List, Option, Some, Vec, Global, option_map, subst, sym}
+use Rattle.std.specs.Borrow.{Bor}
+use Rattle.std.specs.Prelude.{option_copied}
+use Rattle.pac_run.specs.Run.{Writing}
+use Rattle.pac_run_files.specs.Files.{FindsFile, Handling, WantedFile}
+use Rattle.pac_run_files.specs.Read.{HasIfNamed, PartUnread, played_files, watched_files}
+use Rattle.pac_run_files.specs.declared.files.FileKind.TheVariants.{Any}
+use Rattle.pac_run_options.specs.CommandLine.{AskedPlay, AskedDebug}
+use Rattle.pac_run_command.specs.Endings.{Ending, IsOfReading}
+use Rattle.pac_run_command.specs.Outputs.{PlaysRun, ReadsAndRuns, WatchesRun, from_power_on}
+use Rattle.pac_run_command.specs.Programs.{Performing, performing, watching}
+use Rattle.pac_run_command.specs.RecordedProofs.{RunsGiven, silent_in}
+use Rattle.pac_run_command.specs.declared.failure.Failure.{Failure}
+use Rattle.pac_run_command.specs.declared.failure.Failure.TheVariants.{Read, Source, Set, Script, State, Extent, Write, Memory, Words}
+use Rattle.pac_run_command.specs.declared.record.Manner.{Manner}
+use Rattle.pac_run_command.specs.declared.record.Manner.TheVariants.{Played, Watched}
+
+pub silent-in : (manner : Manner) {report text : Type 0} → report → text → silent_in manner report text
+silent-in (Played from) report text = report
+silent-in (Watched commands) report text = (report, text)
+
+-- a failure of reading what is read later
+of-reading : (one other : List ℕ → Type 0) → ((name : List ℕ) → one name → other name) → (failure : Failure) → IsOfReading one failure
+    → IsOfReading other failure
+of-reading one other onward (Read name) reason = onward name.now reason
+of-reading one other onward Memory reason = tt
+of-reading one other onward (Source fault) reason = absurd reason
+of-reading one other onward (Set fault) reason = absurd reason
+of-reading one other onward (Script fault) reason = absurd reason
+of-reading one other onward (State fault) reason = absurd reason
+of-reading one other onward Extent reason = absurd reason
+of-reading one other onward (Write output count) reason = absurd reason
+of-reading one other onward Words reason = absurd reason
+
+-- with the last of what the command line names, it is all of the work
+once-read : {A Disk File C : Type 0} (finds : FindsFile) (handling : Handling Disk File) (named : List WantedFile) (has : A → Type 0)
+    (performs : A → Performing File) {silent : Type 0} {ending : Ending C} (asked : AskedPlay) {old new : Disk} (last : A) → has last
+    → RunsGiven finds handling (performs last) silent ending asked old new
+    → ReadsAndRuns finds handling named has performs silent ending asked old new
+once-read finds handling named has performs asked last had (inl unbegun) = inl (record {
+  failure = unbegun.failure;
+  reason = of-reading (PartUnread finds asked.run) _ (λ name unread. inr (record { last = last; is_had = had; holds = unread }))
+      unbegun.failure unbegun.reason;
+  fails = unbegun.fails;
+  unchanged = unbegun.unchanged;
+  is_silent = unbegun.is_silent;
+})
+once-read finds handling named has performs asked last had (inr run) = inr (record { last = last; is_had = had; holds = run })
+
+module _ {Disk File R C : Type 0} (finds : FindsFile) (handling : Handling Disk File) (took : File → List ℕ → File → Type 0)
+    (refused : File → File → Type 0) (report : Writing R) (silent : Type 0) (ending : Ending C) (old new : Disk) where
+  pub once-played : (asked : AskedPlay) (from : Option (Bor (List ℕ))) (state : Option (Vec ℕ Global))
+      → option_copied from ≡ option_map (λ bytes. bytes.items) state → HasIfNamed finds asked.load state
+      → RunsGiven finds handling (performing took refused report (option_copied from)) silent ending asked old new
+      → PlaysRun finds handling (performing took refused report) silent ending asked old new
+  once-played asked from state same had runs =
+      once-read finds handling (played_files asked) (HasIfNamed finds asked.load)
+      (λ state. performing took refused report (option_map (λ bytes. bytes.items) state)) asked state had
+      (subst (λ some. RunsGiven finds handling (performing took refused report some) silent ending asked old new) same runs)
+
+  pub once-watched : {T : Type 0} (text : Writing T) (asked : AskedDebug) (commands items : List ℕ) → commands ≡ items
+      → finds.bytes Any asked.commands (Some items)
+      → RunsGiven finds handling (watching took refused report text commands) silent ending (from_power_on asked.run) old new
+      → WatchesRun finds handling (watching took refused report text) silent ending asked old new
+  once-watched text asked commands items same had runs =
+      once-read finds handling (watched_files asked) (λ commands. finds.bytes Any asked.commands (Some commands))
+      (watching took refused report text) (from_power_on asked.run) commands
+      (subst (λ bytes. finds.bytes Any asked.commands (Some bytes)) (sym same) had) runs
