@@ -86,6 +86,10 @@ static void keep_drafts(void)
 {
     for (int file = 0; file < DESCRIPTORS; file++) {
         char link_name[64];
+        if (fcntl(file, F_GETFD) < 0) { /* (most are closed) */
+            drafts[file][0] = 0;
+            continue;
+        }
         if (!has_path(file, drafts[file])) {
             snprintf(link_name, sizeof link_name, "/proc/self/fd/%d", file);
             ssize_t length = readlink(link_name, drafts[file], PATH_MAX - 1);
