@@ -14,7 +14,14 @@ typedef struct tape {
     uint16_t held[TAPE_FRAMES];                  /* what is held in each frame, also in those to come where a file says it */
     pac_board kept[TAPE_FRAMES / TAPE_EACH + 1]; /* the block before each 30th frame */
     struct timespec saved;                       /* when the content was saved that was loaded last */
+    struct timespec seen;                        /* when it was saved, as the last look at it says */
 } tape;
+
+/* Whether two moments are one. */
+static inline bool tape_is_same(struct timespec one, struct timespec other)
+{
+    return one.tv_sec == other.tv_sec && one.tv_nsec == other.tv_nsec;
+}
 
 /* Plays a frame with these inputs, or goes on with it where the last call ended at an address of the set: whether it is over. It isn't at
  * such an address, where there is no room for it, or where the board refuses it. */
@@ -67,11 +74,15 @@ static inline const char *tape_load(tape *it, const char *path)
     return wrong;
 }
 
-/* Whether the content of a path was saved since it was loaded. */
-static inline bool tape_is_old(const tape *it, const char *path)
+/* Whether the content of a path was saved since it was loaded, and not since the look before this one: until then it may be half written. */
+static inline bool tape_is_old(tape *it, const char *path)
 {
     struct stat about;
-    return stat(path, &about) == 0 && (about.st_mtim.tv_sec != it->saved.tv_sec || about.st_mtim.tv_nsec != it->saved.tv_nsec);
+    struct timespec before = it->seen;
+    if (stat(path, &about) != 0)
+        return false;
+    it->seen = about.st_mtim;
+    return tape_is_same(it->seen, before) && !tape_is_same(it->seen, it->saved);
 }
 
 /* Reads what is held from a file of hosts/script.py: two bytes for each frame, the low one first, as the processors have them for which

@@ -76,7 +76,7 @@ static bool play_frame(void)
     return is_whole;
 }
 
-/* Loads the content again where it was saved since. */
+/* Loads the content again where it was saved since, a frame after it was. */
 static void look_at_source(void)
 {
     if (!tape_is_old(&it, content))

@@ -116,7 +116,8 @@ def try_source(room: pathlib.Path) -> None:
     with subprocess.Popen(words, stderr=subprocess.PIPE, text=True, env={**os.environ, **SILENT}) as process:
         for content in (text + " LD A,NOWHERE\n", changed):
             time.sleep(1)
-            source.write_text(content)
+            (room / "new.asm").write_text(content)
+            os.replace(room / "new.asm", source)  # whole at once, as most editors save
         told = process.communicate(timeout=60)[1]
     row("a source that is saved while it is played", process.returncode == 0 and told.count("\n") == 2)
     row("its fault, by line, and then the same moment", f"refused A8 line {text.count(chr(10)) + 1}\n" in told and told.endswith("played to the same moment\n"))
