@@ -11,10 +11,16 @@ use std::alloc::{AllocError, Global};
 use std::marker::Model;
 
 /// What the table of a part says. Clauses see the bytes of the file's name, and those of the digest.
-#[derive(Drop)]
 pub struct PartEntry {
     file: Option<String>,
     digest: Option<[u8; 20]>,
+}
+
+impl Drop for PartEntry {
+    /// Drops each part: one call for a check to follow wherever an entry is dropped.
+    fn drop(self) {
+        let PartEntry { file: _, digest: _ } = self;
+    }
 }
 
 impl Model for PartEntry {
@@ -27,7 +33,6 @@ impl Model for PartEntry {
 }
 
 /// What a manifest says: an entry for each part that it has a table for.
-#[derive(Drop)]
 pub struct Manifest {
     /// The four ROMs of the program, lowest addresses first.
     pub program: Option<[PartEntry; 4]>,
@@ -43,6 +48,21 @@ pub struct Manifest {
     pub wave: Option<PartEntry>,
     /// The timing PROM.
     pub timing: Option<PartEntry>,
+}
+
+impl Drop for Manifest {
+    /// Drops each entry: one call for a check to follow wherever a manifest is dropped.
+    fn drop(self) {
+        let Manifest {
+            program: _,
+            tiles: _,
+            sprites: _,
+            colours: _,
+            lookup: _,
+            wave: _,
+            timing: _,
+        } = self;
+    }
 }
 
 impl PartEntry {

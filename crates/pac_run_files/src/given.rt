@@ -22,7 +22,6 @@ pub enum ReadFault<'a> {
 }
 
 /// The files of a run whose names the command line gives, as they were read.
-#[derive(Drop)]
 pub struct Given {
     /// The source, if there is one.
     pub source: Option<Vec<u8>>,
@@ -30,6 +29,17 @@ pub struct Given {
     pub manifest: Vec<u8>,
     /// The script.
     pub script: Vec<u8>,
+}
+
+impl Drop for Given {
+    /// Drops each part: one call for a check to follow wherever the files of a run are dropped.
+    fn drop(self) {
+        let Given {
+            source: _,
+            manifest: _,
+            script: _,
+        } = self;
+    }
 }
 
 /// Reads the file of a path; a fault tells this name.
