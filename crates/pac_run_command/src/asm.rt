@@ -1,12 +1,13 @@
 //! `asm`: a source becomes a ROM file and a listing.
 
-ghost use Rattle.std.specs.Prelude.{◌≡◌, Ok};
+ghost use Rattle.std.specs.Prelude.{◌≡◌, Ok, Some};
 ghost use Rattle.pac_asm.specs.Programs.{program_of};
 ghost use Rattle.pac_listing.specs.Listing as texts;
 ghost use Rattle.pac_run.specs.Recorded.{WritesWholeText};
 ghost use Rattle.pac_run_options.specs.CommandLineProofs.{told_asm};
 ghost use Rattle.pac_run_command.specs.FailuresProofs.{Opens};
 ghost use Rattle.pac_run_files.specs.Files.{AllBegun, AllClosed, FirstUnbegun};
+ghost use Rattle.pac_run_files.specs.declared.files.FileKind.TheVariants.{Any};
 ghost use Rattle.pac_run_command.specs.Making.{Makes, asm_outputs, asm_output_files};
 ghost use Rattle.pac_run.specs.Run.{writing};
 ghost use Rattle.pac_run_command.specs.Programs.{Assembles, assembling};
@@ -116,6 +117,26 @@ fn close_pair<D: FileSystem>(disk: &mut D, outputs: AsmOutputs<D::File>)
     disk.close(outputs.listing);
 }
 
+/// Assembles the source that a file has into two: both are created, and then it is judged.
+fn assemble_into<D: FileSystem>(
+    alloc: Global,
+    disk: &mut D,
+    files: &AsmFiles,
+    source: &[u8],
+) -> Result<(), Failure<'static>>
+    requires { (D.finds disk.old).bytes Any files.now.source.now (Some source.now) }
+    ensures { Makes (D.finds disk.old) D.handling
+        (assembling D.File.took D.File.refused) (told_asm files.now) disk.old result disk.new }
+{
+    let mut outputs = match create_pair(disk, files) {
+        Ok(outputs) => outputs,
+        Err(failure) => return Err(failure),
+    };
+    let done = write_program(alloc, source, &mut outputs.rom, &mut outputs.listing);
+    close_pair(disk, outputs);
+    done
+}
+
 /// Assembles a file into two: the source is read, then both are created, and then the source is judged.
 pub fn asm<'a, D: FileSystem>(
     alloc: Global,
@@ -125,15 +146,8 @@ pub fn asm<'a, D: FileSystem>(
     ensures { Makes (D.finds disk.old) D.handling
         (assembling D.File.took D.File.refused) (told_asm files.now) disk.old result disk.new }
 {
-    let source = match read_file(alloc, disk, files.source) {
-        Ok(source) => source,
-        Err(fault) => return Err(read_failure(fault)),
-    };
-    let mut outputs = match create_pair(disk, files) {
-        Ok(outputs) => outputs,
-        Err(failure) => return Err(failure),
-    };
-    let done = write_program(alloc, &source, &mut outputs.rom, &mut outputs.listing);
-    close_pair(disk, outputs);
-    done
+    match read_file(alloc, disk, files.source) {
+        Ok(source) => assemble_into(alloc, disk, files, &source),
+        Err(fault) => Err(read_failure(fault)),
+    }
 }

@@ -1,6 +1,6 @@
 //! The outputs of a run: they are begun, and once the run is over it is settled what becomes of them.
 
-ghost use Rattle.std.specs.Prelude.{◌≡◌, map, option_copied, option_to_list};
+ghost use Rattle.std.specs.Prelude.{◌≡◌, ◌∷◌, IfErr, IfOk, map, option_copied, option_to_list};
 ghost use Rattle.pac_run_options.specs.CommandLineProofs.{told_play};
 ghost use Rattle.pac_run_files.specs.Files.{AllBegun, FirstUnbegun, IsBegun, IsLetGo};
 ghost use Rattle.pac_run_command.specs.FailuresProofs.{Opens};
@@ -119,6 +119,31 @@ fn let_go<D: FileSystem>(disk: &mut D, wanted: &Wanted, file: D::File)
     }
 }
 
+/// Begins the listing, and the state, if one is named; where that can't be, the listing is let go.
+fn begin_listing_and_state<D: FileSystem>(
+    disk: &mut D,
+    wanted: &RunOutputs,
+) -> Result<(D::File, Option<D::File>), Target>
+    ensures begun { IfOk result (λ files. AllBegun D.handling disk.old
+        (told_wanted wanted.now.listing ∷ map told_wanted (option_to_list wanted.now.state))
+        (files.0 ∷ option_to_list files.1) disk.new) }
+    ensures unbegun { IfErr result (λ output. FirstUnbegun D.handling disk.old
+        (told_wanted wanted.now.listing ∷ map told_wanted (option_to_list wanted.now.state))
+        output disk.new) }
+{
+    let Some(listing) = begin(disk, &wanted.listing) else {
+        return Err(wanted.listing.output);
+    };
+    let Some(saved) = wanted.state else {
+        return Ok((listing, None));
+    };
+    let Some(state) = begin(disk, &saved) else {
+        let_go(disk, &wanted.listing, listing);
+        return Err(saved.output);
+    };
+    Ok((listing, Some(state)))
+}
+
 /// Begins the outputs of a run, in their order. Where one can't be, those before it are let go, the last one first.
 pub fn begin_outputs<D: FileSystem>(
     disk: &mut D,
@@ -137,31 +162,19 @@ pub fn begin_outputs<D: FileSystem>(
         let_go(disk, &wanted.frames, frames);
         return Err(Failure::Write(wanted.wave.output, 0));
     };
-    let Some(listing) = begin(disk, &wanted.listing) else {
-        let_go(disk, &wanted.wave, wave);
-        let_go(disk, &wanted.frames, frames);
-        return Err(Failure::Write(wanted.listing.output, 0));
-    };
-    let Some(saved) = wanted.state else {
-        return Ok(Outputs {
+    match begin_listing_and_state(disk, wanted) {
+        Ok((listing, state)) => Ok(Outputs {
             frames,
             wave,
             listing,
-            state: None,
-        });
-    };
-    let Some(state) = begin(disk, &saved) else {
-        let_go(disk, &wanted.listing, listing);
-        let_go(disk, &wanted.wave, wave);
-        let_go(disk, &wanted.frames, frames);
-        return Err(Failure::Write(saved.output, 0));
-    };
-    Ok(Outputs {
-        frames,
-        wave,
-        listing,
-        state: Some(state),
-    })
+            state,
+        }),
+        Err(output) => {
+            let_go(disk, &wanted.wave, wave);
+            let_go(disk, &wanted.frames, frames);
+            Err(Failure::Write(output, 0))
+        }
+    }
 }
 
 /// What a call for an output comes to, after a run that is done.

@@ -3,13 +3,15 @@
 ghost use Rattle.std.specs.Prelude.{◌≡◌, ◌≢◌, ◌≤◌, [], map, string_bytes};
 ghost use Rattle.clap.specs.Words.{kind_of};
 ghost use Rattle.pac_run_options.specs.CommandLine.{faults_of, request_of};
+ghost use Rattle.pac_run_options.specs.CommandLineProofs.{told_request};
 ghost use Rattle.pac_run_command.specs.Endings.{FailureEnds, WordsEnd, WorkEnds};
 ghost use Rattle.pac_run_command.specs.EndingsProofs.{ending_told};
 ghost use Rattle.pac_run_command.specs.Failures as told;
 ghost use Rattle.pac_run_command.specs.Machine.{IsUnheard, RunsOn, WorksOn};
 ghost use Rattle.pac_run.specs.Run.{writing};
 ghost use Rattle.pac_run_command.specs.Programs.{assembling};
-ghost use Rattle.pac_run_command.specs.Works.{Works, WorksUnkept, desk_of, without_output};
+ghost use Rattle.pac_run_command.specs.Works.{DoesUnkept, DoesWork, Works, WorksUnkept};
+ghost use Rattle.pac_run_command.specs.Works.{desk_of, without_output};
 ghost use Rattle.pac_run_command.specs.declared.failure.Failure.TheVariants.{Write};
 ghost use Rattle.pac_run_command.specs.declared.failure.Target.TheVariants.{Of};
 
@@ -70,8 +72,29 @@ fn tell_words<C: Teller>(console: &mut C, kind: io::ErrorKind) -> u8
     tell(console, Failure::Words)
 }
 
-/// Does what words ask where a file that is created might stand in the place of a standard stream: work that writes to standard
-/// output isn't begun, and its report or text is told as refused.
+/// Does what is asked where a file that is created might stand in the place of a standard stream: work that writes to standard output isn't
+/// begun, and its report or text is told as refused.
+fn serve_unkept<D: FileSystem, C: Teller>(
+    alloc: Global,
+    disk: &mut D,
+    console: &mut C,
+    request: Request,
+) -> u8
+    ensures status { result ≤ told.most_status }
+    ensures does { DoesUnkept (without_output (D.finds disk.old) D.handling
+        (assembling D.File.took D.File.refused)
+        (ending_told C.tells C.explains console.old console.new result))
+        (told_request request.entry) disk.old disk.new }
+{
+    match request {
+        Request::Asm(files) => end(console, asm(alloc, disk, &files)),
+        Request::Run(_) => refuse(console, Output::Report, 0),
+        Request::Debug(_) => refuse(console, Output::Report, 0),
+        Request::Dis(_) => refuse(console, Output::Text, 0),
+    }
+}
+
+/// Does what words ask where a file that is created might stand in the place of a standard stream.
 pub(crate) fn work_unkept<D: FileSystem, C: Teller>(
     alloc: Global,
     disk: &mut D,
@@ -86,10 +109,7 @@ pub(crate) fn work_unkept<D: FileSystem, C: Teller>(
         (request_of (map string_bytes words.now)) disk.old disk.new }
 {
     match options(alloc, words) {
-        Ok(Request::Asm(files)) => end(console, asm(alloc, disk, &files)),
-        Ok(Request::Run(_)) => refuse(console, Output::Report, 0),
-        Ok(Request::Debug(_)) => refuse(console, Output::Report, 0),
-        Ok(Request::Dis(_)) => refuse(console, Output::Text, 0),
+        Ok(request) => serve_unkept(alloc, disk, console, request),
         Err(error) => explain(console, &error),
     }
 }
@@ -131,6 +151,37 @@ pub fn run_words<R: Files + AllocGlobal, C: Print + Eprint>(
     )
 }
 
+/// Does what is asked over files, with a writer for the report and one for the text of a session or a disassembly, and a console where a
+/// failure is told.
+fn serve<D: FileSystem, R: Out, T: Out, C: Teller>(
+    alloc: Global,
+    disk: &mut D,
+    report: &mut R,
+    text: &mut T,
+    console: &mut C,
+    request: Request,
+) -> u8
+    ensures status { result ≤ told.most_status }
+    ensures does { DoesWork (desk_of (D.finds disk.old) D.handling D.File.took D.File.refused
+        (writing R.took R.refused report.old report.new)
+        (writing T.took T.refused text.old text.new)
+        (record {
+          tells = C.tells;
+          explains = C.explains;
+          old = console.old;
+          new = console.new;
+          status = result;
+        }))
+        (told_request request.entry) disk.old disk.new }
+{
+    match request {
+        Request::Asm(files) => end(console, asm(alloc, disk, &files)),
+        Request::Run(files) => play(alloc, disk, report, text, console, &files),
+        Request::Debug(files) => debug(alloc, disk, report, text, console, &files),
+        Request::Dis(name) => end(console, dis(alloc, disk, text, name)),
+    }
+}
+
 /// Does what words ask for over files, with a writer for the report and one for the text of a session or a disassembly, which
 /// both are standard output, and a console where a failure is told.
 pub fn work<D: FileSystem, R: Out, T: Out, C: Teller>(
@@ -158,10 +209,7 @@ pub fn work<D: FileSystem, R: Out, T: Out, C: Teller>(
         (request_of (map string_bytes words.now)) disk.old disk.new }
 {
     match options(alloc, words) {
-        Ok(Request::Asm(files)) => end(console, asm(alloc, disk, &files)),
-        Ok(Request::Run(files)) => play(alloc, disk, report, text, console, &files),
-        Ok(Request::Debug(files)) => debug(alloc, disk, report, text, console, &files),
-        Ok(Request::Dis(name)) => end(console, dis(alloc, disk, text, name)),
+        Ok(request) => serve(alloc, disk, report, text, console, request),
         Err(error) => explain(console, &error),
     }
 }

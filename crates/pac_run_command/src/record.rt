@@ -18,7 +18,6 @@ use crate::outputs::{Outputs, RunAnswer, begin_outputs, outputs_of, settle};
 use crate::play::run_over;
 use crate::program::tell;
 use crate::teller::Teller;
-use pac_roms_manifest::Manifest;
 use pac_run::{Out, Outcome, RunInputs};
 use pac_run_files::{FileSystem, Given, NamedFile, manifest_in, parts_of, read_parts};
 use pac_run_options::PlayFiles;
@@ -97,19 +96,6 @@ fn end<C: Teller>(console: &mut C, ran: Result<Outcome, Failure>) -> u8
     }
 }
 
-/// The manifest of a run's set, as it was read, if it can be.
-struct ReadManifest {
-    /// The manifest.
-    manifest: Option<Manifest>,
-}
-
-impl Drop for ReadManifest {
-    /// Drops it: one call for a check to follow, in place of a drop of each entry wherever a manifest is dropped.
-    fn drop(self) {
-        let ReadManifest { manifest: _ } = self;
-    }
-}
-
 /// Runs what the files of a command line hold, once those that it names are read, and answers the exit status: the files that the
 /// manifest names are read before an output is created.
 pub(crate) fn run_given<D: FileSystem, R: Out, T: Out, C: Teller>(
@@ -135,8 +121,7 @@ pub(crate) fn run_given<D: FileSystem, R: Out, T: Out, C: Teller>(
     let Ok(manifest) = manifest_in(alloc, &given.manifest) else {
         return tell(console, Failure::Memory);
     };
-    let read = ReadManifest { manifest };
-    match read_parts(alloc, disk, files.run.set, &read.manifest) {
+    match read_parts(alloc, disk, files.run.set, &manifest) {
         Ok(named) => end(
             console,
             record(alloc, disk, report, text, files, given, &named, manner),

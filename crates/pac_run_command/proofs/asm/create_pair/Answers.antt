@@ -1,0 +1,5 @@
+use Rattle.std.proofs.Common.{refl}
+use Rattle.pac_run_command.proofs.asm.create_pair.Goals as goal
+
+pub returns : goal.returns
+returns g c = (c.create.new.self, c.in-Some.ensures, (c.create-2.new.self, c.in-Some-create.ensures, refl))

@@ -1,0 +1,9 @@
+use Rattle.pac_run_command.proofs.outputs.settle.Goals as goal
+
+pub returns : goal.returns
+returns g c = record {
+  so_far = c.write_all_out-ran.result;
+  written = c.write_all_out-ran.new.disk;
+  all_written = c.write_all_out-ran.ensures;
+  all_settled = c.settle_all.ensures;
+}
