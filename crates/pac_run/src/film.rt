@@ -1,7 +1,8 @@
 //! Where a run's pictures and samples go: the film and the wave file, side by side.
 
 ghost use Rattle.std.specs.Prelude.{◌≡◌, ◌<◌, ◌≤◌, ◌-◌, Some, IsSome, IfOk, pos, replicate};
-ghost use Rattle.pac_board_course.specs.Output.{Sound};
+ghost use Rattle.pac_board_course.specs.Output.{Show, Sound};
+ghost use Rattle.pac_board_course.specs.SinksLaws.{by, IsOffer, offered_image};
 ghost use Rattle.pac_board_course.specs.Stretches.{most_frames};
 ghost use Rattle.pac_media.specs.Samples.{samples_text};
 ghost use Rattle.pac_media.specs.Sound.{sample_room};
@@ -61,8 +62,32 @@ impl<F: Out, W: Out> Sink for Film<F, W> {
         }
     }
 
-    /// Writes the samples that wait, and then puts the picture's image into the film: so no image is written before its sound.
+    /// Writes the samples that wait, and then the picture's image.
     fn picture(&mut self, picture: &Picture) -> Result<(), Refused> {
+        self.show(picture)
+    }
+}
+
+/// The samples of a frame.
+const FRAME_SAMPLES: u32 = pac_board_course::FRAME_SAMPLES as u32;
+
+impl<F: Out, W: Out> Film<F, W> {
+    /// Puts a sample that there is room for into the wave file.
+    #[inline]
+    fn keep(&mut self, sample: i16)
+        requires { 0 < sample_room self.old.wave }
+        ensures took { film_took F.took W.took self.old (Sound sample) self.new }
+        ensures room { sample_room self.new.wave ≡ sample_room self.old.wave - 1 }
+    {
+        self.wave.keep(sample);
+    }
+
+    /// Writes the samples that wait, and then puts the picture's image into the film: so no image is written before its sound.
+    fn show(&mut self, picture: &Picture) -> Result<(), Refused>
+        ensures { IsOffer
+            (by (film_took F.took W.took) (film_refused F.took F.refused W.took W.refused))
+            self.old (Show (offered_image picture.now)) result self.new }
+    {
         if let Err(fault) = self.wave.flush() {
             self.fault = Some(OutputFault {
                 output: Output::Wave,
@@ -80,21 +105,6 @@ impl<F: Out, W: Out> Sink for Film<F, W> {
                 Err(Refused)
             }
         }
-    }
-}
-
-/// The samples of a frame.
-const FRAME_SAMPLES: u32 = pac_board_course::FRAME_SAMPLES as u32;
-
-impl<F: Out, W: Out> Film<F, W> {
-    /// Puts a sample that there is room for into the wave file.
-    #[inline]
-    fn keep(&mut self, sample: i16)
-        requires { 0 < sample_room self.old.wave }
-        ensures took { film_took F.took W.took self.old (Sound sample) self.new }
-        ensures room { sample_room self.new.wave ≡ sample_room self.old.wave - 1 }
-    {
-        self.wave.keep(sample);
     }
 
     /// The output that refused.
