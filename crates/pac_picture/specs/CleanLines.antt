@@ -6,9 +6,10 @@ use Rattle.pac_tiles.specs.Tiles.{width, height, tile_side}
 use Rattle.pac_sprites.specs.declared.Sprite.{Sprite}
 use Rattle.pac_sprites.specs.Sprites.{sprite_of, is_in_box}
 use Rattle.pac_picture.specs.declared.shadow.Shadow.{Shadow}
+use Rattle.pac_picture.specs.declared.clean.Clean.{Clean}
 use Rattle.pac_picture.specs.declared.clean.SpriteBytes.{SpriteBytes}
 use Rattle.pac_picture.specs.Picture.{VideoRoms, sprite_dot, is_opaque}
-use Rattle.pac_picture.specs.LayerProofs.{kept_dot}
+use Rattle.pac_picture.specs.LayerProofs.{LayerState, kept_dot}
 use Rattle.pac_picture.specs.Layer.{shadow_at}
 
 -- the line of the picture that isn't flipped which line y of the shown one has
@@ -45,3 +46,11 @@ pub record AreClean (marks : List Bool) (flip : Bool) (sprites : List SpriteByte
   pub each : (y : ℕ) → y < height → slice_index_or marks (unflipped_line flip y) false ≡ true
       → slice_index_or lines y []
       ≡ seen_line roms (shadow_at shadows (unflipped_line flip y / tile_side)) (sprites_at sprites (unflipped_line flip y)) flip y
+
+-- the same of what a picture and its layer keep
+abbrev pub MarksClean : Clean → LayerState → (lines : List (List ℕ)) → Type 0
+MarksClean clean layer lines = AreClean clean.lines clean.flip clean.sprites layer.roms layer.shadows lines
+
+-- whatever lines they are, those that are marked stay clean where a row of cells is drawn
+abbrev pub StayClean : (clean : Clean) (layer : LayerState) (left : Clean) (drawn : LayerState) → Type 0
+StayClean clean layer left drawn = (lines : List (List ℕ)) → MarksClean clean layer lines → MarksClean left drawn lines

@@ -12,7 +12,7 @@ ghost use Rattle.pac_picture.specs.PictureLaws.{picture_of};
 ghost use Rattle.pac_picture.specs.Layer.{shadow_at, drawn_from};
 ghost use Rattle.pac_picture.specs.State.{IsPicture, black};
 ghost use Rattle.pac_picture.specs.StateLaws.{source_of};
-ghost use Rattle.pac_picture.specs.CleanLines.{AreClean};
+ghost use Rattle.pac_picture.specs.CleanLines.{MarksClean};
 
 use crate::clean::Clean;
 use crate::graphics::Graphics;
@@ -128,12 +128,10 @@ impl Lines {
         requires y { y < tile.height }
         requires drawn { shadow_at layer.now.shadows (source_of screen.now y / 8)
             ≡ drawn_from screen.now (source_of screen.now y / 8) }
-        requires clean { AreClean clean.old.lines clean.old.flip clean.old.sprites layer.now.roms
-            layer.now.shadows self.old }
+        requires clean { MarksClean clean.old layer.now self.old }
         requires flip { clean.old.flip ≡ screen.now.flip }
         ensures lines { self.new ≡ slice_set self.old y (picture_line layer.now.roms screen.now y) }
-        ensures clean { AreClean clean.new.lines clean.new.flip clean.new.sprites layer.now.roms
-            layer.now.shadows self.new }
+        ensures clean { MarksClean clean.new layer.now self.new }
         ensures flip { clean.new.flip ≡ clean.old.flip }
     {
         let source = screen.source(y);

@@ -1,12 +1,12 @@
 //! The picture as a board keeps it.
 
-ghost use Rattle.std.specs.Prelude.{◌≡◌, ◌<◌, ◌≤◌, ◌-◌, ◌/◌, ℕ, List, [], false, length, map};
+ghost use Rattle.std.specs.Prelude.{◌≡◌, ◌<◌, ◌≤◌, ◌-◌, ◌/◌, [], false, length, map};
 ghost use Rattle.std.specs.Prelude.{replicate};
 ghost use Rattle.std.specs.Prelude.{slice_index, slice_index_or, slice_set, EachIndex};
 ghost use Rattle.pac_tiles.specs.Tiles as tile;
 ghost use Rattle.pac_tiles.specs.TilesLaws as tiles_laws;
 ghost use Rattle.pac_colour.specs.Colours as colour;
-ghost use Rattle.pac_picture.specs.CleanLines.{AreClean};
+ghost use Rattle.pac_picture.specs.CleanLines.{MarksClean, StayClean};
 ghost use Rattle.pac_picture.specs.Layer.{AreStale, cell_differs, shadow_at, cells_of};
 ghost use Rattle.pac_picture.specs.Layer.{differing_in, drawn_from};
 ghost use Rattle.pac_picture.specs.Picture.{picture_line};
@@ -41,7 +41,7 @@ impl Model for Picture {
     ghost use Rattle.std.specs.Prelude.{◌≡◌, length};
     ghost use Rattle.pac_colour.specs.Colours.{numbers};
     ghost use Rattle.pac_picture.specs.StateLaws.{PictureState};
-    ghost use Rattle.pac_picture.specs.CleanLines.{AreClean};
+    ghost use Rattle.pac_picture.specs.CleanLines.{MarksClean};
 
     ghost Value = { PictureState };
 
@@ -55,8 +55,7 @@ impl Model for Picture {
 
     ghost invariant = { λ picture. record {
       colours : length picture.palette ≡ numbers;
-      clean : AreClean picture.clean.lines picture.clean.flip picture.clean.sprites
-          picture.layer.roms picture.layer.shadows picture.lines;
+      clean : MarksClean picture.clean picture.layer picture.lines;
     } };
 }
 
@@ -81,11 +80,7 @@ fn draw_row(row: u8, screen: &Screen<'_>, layer: &mut Layer, clean: &mut Clean) 
     ensures drawn { shadow_at layer.new.shadows row ≡ drawn_from screen.now row }
     ensures count { result ≡ differing_in layer.old.shadows screen.now row }
     ensures flip { clean.new.flip ≡ clean.old.flip }
-    ensures clean { (lines : List (List ℕ)) →
-        AreClean clean.old.lines clean.old.flip clean.old.sprites layer.old.roms
-        layer.old.shadows lines
-        → AreClean clean.new.lines clean.new.flip clean.new.sprites layer.new.roms
-        layer.new.shadows lines }
+    ensures clean { StayClean clean.old layer.old clean.new layer.new }
 {
     let cells = layer.refresh(row, screen);
     clean.redrawn(row, cells);
@@ -101,11 +96,7 @@ fn draw_other_row(row: u8, last: u8, screen: &Screen<'_>, layer: &mut Layer, cle
     ensures roms { layer.new.roms ≡ layer.old.roms }
     ensures drawn { shadow_at layer.new.shadows row ≡ drawn_from screen.now row }
     ensures flip { clean.new.flip ≡ clean.old.flip }
-    ensures clean { (lines : List (List ℕ)) →
-        AreClean clean.old.lines clean.old.flip clean.old.sprites layer.old.roms
-        layer.old.shadows lines
-        → AreClean clean.new.lines clean.new.flip clean.new.sprites layer.new.roms
-        layer.new.shadows lines }
+    ensures clean { StayClean clean.old layer.old clean.new layer.new }
 {
     if row != last {
         draw_row(row, screen, layer, clean);
@@ -124,14 +115,13 @@ fn compose_each(
 )
     requires order { first ≤ end }
     requires end { end ≤ tile.height }
-    requires clean { AreClean clean.old.lines clean.old.flip clean.old.sprites layer.old.roms
-        layer.old.shadows lines.old }
+    requires clean { MarksClean clean.old layer.old lines.old }
     requires flip { clean.old.flip ≡ screen.now.flip }
     ensures lines { lines.new ≡ lines_composed layer.old.roms screen.now lines.old first (end - first) }
     ensures roms { layer.new.roms ≡ layer.old.roms }
-    ensures clean { AreClean clean.new.lines clean.new.flip clean.new.sprites layer.new.roms
-        layer.new.shadows lines.new }
+    ensures clean { MarksClean clean.new layer.new lines.new }
 {
+    // (no row yet: an `Option` would be looked at for each line)
     let mut last = ROWS;
     for y in first..end {
         let row = screen.source(y) / 8;

@@ -1,5 +1,5 @@
 use Rattle.std.proofs.Common.{◌≡◌, ◌<◌, ◌-◌}
-use Rattle.pac_picture.specs.CleanLines.{AreClean}
+use Rattle.pac_picture.specs.CleanLines.{MarksClean}
 use Rattle.pac_picture.specs.Layer.{shadow_at, drawn_from}
 use Rattle.pac_picture.specs.PictureProofs.{lines_composed}
 use Rattle.pac_picture.proofs.picture.compose_each.Given as goal
@@ -8,7 +8,7 @@ abbrev pub invariant-loop-y : goal.invariant-loop-y
 invariant-loop-y l = record {
   done : l.lines ≡ lines_composed l.fn.layer.roms l.screen l.fn.lines l.fn.first (l.y - l.fn.first);
   roms : l.layer.roms ≡ l.fn.layer.roms;
-  clean : AreClean l.clean.lines l.clean.flip l.clean.sprites l.layer.roms l.layer.shadows l.lines;
+  clean : MarksClean l.clean l.layer l.lines;
   flip : l.clean.flip ≡ l.screen.flip;
   drawn : l.last < 28 → shadow_at l.layer.shadows l.last ≡ drawn_from l.screen l.last;
 }
