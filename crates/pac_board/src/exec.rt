@@ -3,6 +3,7 @@
 ghost use Rattle.std.specs.Prelude.{◌≡◌, ◌<◌, ◌≤◌, ◌+◌, ◌-◌, ◌*◌, ◌/◌, ◌^◌, [], None};
 ghost use Rattle.std.specs.Prelude.{is_some, min, take};
 ghost use Rattle.pac_machine.specs.Standing.{latest, nothing_due};
+ghost use Rattle.pac_machine.specs.Bursts.{batch_samples};
 ghost use Rattle.pac_board.specs.State.{due_outputs};
 ghost use Rattle.pac_board.specs.Calls.{with_due};
 ghost use Rattle.pac_board.specs.CallsLaws.{Offers, IsAdvanced, Advances, StepsOnce, Executes};
@@ -173,7 +174,7 @@ impl Board {
         ensures marks { W.marks watch.new ≡ W.marks watch.old }
         ensures nothing { self.new.state.due ≡ nothing_due }
         ensures stopped { result.0 ≡ is_some met.new }
-        ensures count { result.1 ≤ 96 }
+        ensures count { result.1 ≤ batch_samples }
         ensures before { sample_ticks * (self.old.state.now.time / sample_ticks + result.1)
             < limit }
     {
@@ -188,7 +189,7 @@ impl Board {
         ensures later { self.now.state.now.time < result }
         ensures within { result ≤ limit }
         ensures room { result ≤ sample_ticks
-            * (self.now.state.now.time / sample_ticks + min room 96 + 1) }
+            * (self.now.state.now.time / sample_ticks + min room batch_samples + 1) }
     {
         let many = self.time() / SAMPLE_TICKS + room.min(BATCH_SAMPLES) as u64;
         limit.min(SAMPLE_TICKS * (many + 1))

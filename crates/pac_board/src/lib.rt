@@ -17,8 +17,8 @@ pub use exec::{LATEST, Ran};
 pub use fault::{Fault, Idle, InitRefused};
 pub use pac_cpu::{Alternate, Cause, InterruptMode, Once, Regs, StepKind, Stop};
 pub use pac_machine::{
-    Access, Due, FRAME_SAMPLES, FRAME_TICKS, Fields, MOST_ASKED, Marks, PastStep, SAMPLE_TICKS,
-    Stops, Trail, Unwatched, Watch, WatchedAddresses,
+    Access, BATCH_SAMPLES, Due, FRAME_SAMPLES, FRAME_TICKS, Fields, MOST_ASKED, Marks, PastStep,
+    SAMPLE_TICKS, Stops, Trail, Unwatched, Watch, WatchedAddresses,
 };
 pub use pac_map::{Flags, Inputs, MemoryFields, Raw, RomSet};
 pub use pac_picture::{HEIGHT, Picture, RawLines, WIDTH, raw_row};

@@ -1,8 +1,9 @@
 //! The sink of steps that are done again.
 
+ghost use Rattle.pac_board_course.specs.Bursts.{batch_samples};
 ghost use Rattle.pac_debug_session.specs.Silent.{Swallows, NeverRefuses};
 
-use pac_board_course::{Picture, Refused, Sink};
+use pac_board_course::{BATCH_SAMPLES, Picture, Refused, Sink};
 
 /// Takes all, and does nothing with it.
 #[derive(Drop)]
@@ -13,12 +14,12 @@ impl Sink for Silent {
 
     ghost refused = { NeverRefuses };
 
-    ghost room_for = { λ _. 96 };
+    ghost room_for = { λ _. batch_samples };
 
     /// For all that a stretch gives.
     #[inline]
     fn room(&self) -> usize {
-        96
+        BATCH_SAMPLES
     }
 
     /// Takes samples.

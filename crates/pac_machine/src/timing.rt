@@ -25,6 +25,9 @@ pub(crate) const SCAN_LINES: u64 = 264;
 /// The lines of the scan before the first that is shown.
 pub(crate) const HIDDEN_LINES: u64 = 40;
 
+/// The T-states of a halted step.
+pub(crate) const HALTED_TICKS: u64 = 4;
+
 /// How many samples the steps of a stretch may give before the last one.
 pub const BATCH_SAMPLES: usize = 96;
 
