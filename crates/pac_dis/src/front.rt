@@ -1,6 +1,6 @@
 //! The instruction that some bytes begin with.
 
-ghost use Rattle.std.specs.Prelude.{◌≡◌, ◌≤◌, IfSome, Some, option_map, length, slice_index};
+ghost use Rattle.std.specs.Prelude.{◌≡◌, ◌≤◌, ◌<◌, true, false, IfSome, Some, option_map, length, slice_index};
 ghost use Rattle.pac_table.specs.Instructions.{Instruction, IsInstruction, code};
 ghost use Rattle.pac_code.specs.Codes.{Begins};
 ghost use Rattle.pac_table.specs.PatternsLaws.{longest_code};
@@ -28,6 +28,14 @@ fn first_four(bytes: &[u8]) -> [u8; 4]
     ]
 }
 
+/// Whether there are as many bytes as a code has.
+fn has_whole(bytes: &[u8], size: u8) -> bool
+    ensures whole { result ≡ true → size ≤ length bytes.now }
+    ensures cut { result ≡ false → length bytes.now < size }
+{
+    usize::from(size) <= bytes.len()
+}
+
 /// The instruction whose whole code some bytes begin with, and the count of its bytes.
 #[tactic(auto, using(crate::proofs::Fronts::fronts))]
 pub fn front(bytes: &[u8]) -> Option<(Instr, u8)>
@@ -43,7 +51,7 @@ pub fn front(bytes: &[u8]) -> Option<(Instr, u8)>
         result ≡ Some (i, length (code i)) }
 {
     let (instr, size) = decode(first_four(bytes))?;
-    if usize::from(size) <= bytes.len() {
+    if has_whole(bytes, size) {
         Some((instr, size))
     } else {
         None

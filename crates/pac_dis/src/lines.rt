@@ -1,6 +1,6 @@
 //! The lines of a disassembly.
 
-ghost use Rattle.std.specs.Prelude.{◌≡◌, ◌<◌, ◌≤◌, length, IfOk};
+ghost use Rattle.std.specs.Prelude.{◌≡◌, ◌<◌, ◌≤◌, length, take, IfOk};
 ghost use Rattle.pac_out.specs.CountedProofs.{Puts};
 ghost use Rattle.pac_out.specs.Pending.{Gathers};
 ghost use Rattle.pac_dis.specs.Texts.{size_at};
@@ -11,6 +11,15 @@ use pac_num::{byte_columns, hex_word, offset};
 use pac_out::counted::Counted;
 use pac_out::pending::Pending;
 use pac_out::{Out, WriteFault};
+
+/// The first so many of some bytes.
+fn code_of(bytes: &[u8], size: u8) -> &[u8]
+    requires { size ≤ length bytes.now }
+    ensures { result.now ≡ take size bytes.now }
+{
+    let (code, _) = bytes.split_at(usize::from(size));
+    code
+}
 
 /// Gathers the line of what some bytes begin with, the first of them at an address, as
 /// `0002 324040   LD (4040H),A`, and tells how many of the bytes it shows.
@@ -29,11 +38,10 @@ pub fn put_line<W: Out>(
     ensures within { IfOk result (λ size. size ≤ length bytes.now) }
 {
     let (text, size) = disassemble(bytes, at);
-    let (code, _) = bytes.split_at(usize::from(size));
     let pieces: [&[u8]; 6] = [
         &hex_word(at),
         b" ",
-        &byte_columns(code),
+        &byte_columns(code_of(bytes, size)),
         b" ",
         text.as_bytes(),
         b"\n",

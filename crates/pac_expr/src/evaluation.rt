@@ -1,6 +1,7 @@
 //! The values of operands, and what signs and operators make of them.
 
 ghost use Rattle.std.specs.Prelude.{◌≡◌, ℕ, ℤ, List, Option, Some};
+ghost use Rattle.pac_expr.specs.Codes.{value_error_code};
 ghost use Rattle.pac_expr.specs.TreesProofs.{atom_of};
 ghost use Rattle.pac_expr.specs.Values.{atom_value, sign_value, joined_value, operator_value};
 ghost use Rattle.pac_expr.specs.Values.{first_value_error};
@@ -20,16 +21,23 @@ pub enum ValueError {
 }
 
 impl fmt::Display for ValueError {
-    ghost use Rattle.pac_expr.specs.Codes.{value_error_code};
-
     ghost output = { λ fault. Some (value_error_code fault) };
 
     /// The code: `E1`, `E2` or `E3`.
     fn fmt<W: fmt::Write>(&self, f: &mut fmt::Formatter<W>) -> fmt::Result {
+        f.write_str(self.code())
+    }
+}
+
+impl ValueError {
+    /// The code of the fault, as it is told.
+    fn code(&self) -> &'static str
+        ensures { result.now ≡ value_error_code self.now }
+    {
         match self {
-            ValueError::Undefined => f.write_str("E1"),
-            ValueError::OutOfRange => f.write_str("E2"),
-            ValueError::DivisionByZero => f.write_str("E3"),
+            ValueError::Undefined => "E1",
+            ValueError::OutOfRange => "E2",
+            ValueError::DivisionByZero => "E3",
         }
     }
 }

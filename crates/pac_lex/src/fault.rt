@@ -1,6 +1,7 @@
 //! What can be wrong with a line.
 
 ghost use Rattle.std.specs.Prelude.{◌≡◌, Some};
+ghost use Rattle.pac_lex.specs.Codes.{lex_fault_code};
 ghost use Rattle.pac_lex.specs.declared.fault.LexError.TheVariants as errors;
 
 use std::alloc::{AllocError, AllocFailed};
@@ -29,16 +30,24 @@ pub enum LexError {
 }
 
 impl fmt::Display for LexFault {
-    ghost use Rattle.pac_lex.specs.Codes.{lex_fault_code};
-
     ghost output = { λ fault. Some (lex_fault_code fault) };
 
+    /// The code: `L1` to `L4`.
     fn fmt<W: fmt::Write>(&self, f: &mut fmt::Formatter<W>) -> fmt::Result {
+        f.write_str(self.code())
+    }
+}
+
+impl LexFault {
+    /// The code of the fault, as it is told.
+    fn code(&self) -> &'static str
+        ensures { result.now ≡ lex_fault_code self.now }
+    {
         match self {
-            LexFault::NoToken => f.write_str("L1"),
-            LexFault::WrongNumber => f.write_str("L2"),
-            LexFault::OpenText => f.write_str("L3"),
-            LexFault::LongLine => f.write_str("L4"),
+            LexFault::NoToken => "L1",
+            LexFault::WrongNumber => "L2",
+            LexFault::OpenText => "L3",
+            LexFault::LongLine => "L4",
         }
     }
 }
