@@ -1,8 +1,9 @@
 //! The form of a line, from its tokens.
 
-ghost use Rattle.std.specs.Prelude.{◌≡◌, option_map};
+ghost use Rattle.std.specs.Prelude.{◌≡◌, ◌∷◌, true, option_map};
 ghost use Rattle.pac_lex.specs.TokensProofs.{views};
-ghost use Rattle.pac_asm_line.specs.Forms.{after_colon, directive_or_operation, form_of};
+ghost use Rattle.pac_asm_operation.specs.Directives.{directive_of};
+ghost use Rattle.pac_asm_line.specs.Forms.{after_colon, begins_statement, directive_or_operation, form_of};
 ghost use Rattle.pac_asm_line.specs.Forms.{form_with_label, is_colon, is_name_kind};
 ghost use Rattle.pac_asm_line.specs.Forms.{statement_after_label, may_stand};
 ghost use Rattle.pac_asm_line.specs.Views as view;
@@ -15,24 +16,44 @@ use pac_table_names::{is_operation, name_of};
 
 /// The form of a line of these tokens, or `None` where they are no line of the source (A2). Its first name
 /// is a label exactly where it names no directive and no operation.
-#[tactic(auto, unfolding(crate::specs::Forms::form_of, crate::specs::Forms::begins_statement, crate::specs::Forms::statement_of))]
+#[tactic(auto, unfolding(crate::specs::Forms::form_of))]
 pub fn form<'t, 'a>(tokens: &'t [Token<'a>]) -> Option<Form<'t, 'a>>
     ensures { option_map view.seen_form result ≡ form_of (views tokens.now) }
 {
     let [first, rest @ ..] = tokens else {
         return formed(None, Some(Statement::Nothing));
     };
-    if !is_name(first) {
-        return None;
+    if is_name(first) {
+        named(first, rest)
+    } else {
+        None
     }
-    let directive = directive_of(first.text);
-    if directive.is_some() || is_operation(first.text) {
-        formed(None, directed_or(directive, first.text, rest))
-    } else if name_of(first.text).is_some() {
+}
+
+/// The form of a line that begins with this name.
+#[tactic(auto, unfolding(crate::specs::Forms::form_of, crate::specs::Forms::statement_of))]
+fn named<'t, 'a>(first: &Token<'a>, rest: &'t [Token<'a>]) -> Option<Form<'t, 'a>>
+    requires { is_name_kind first.now.kind ≡ true }
+    ensures { option_map view.seen_form result ≡ form_of (views (first.now ∷ rest.now)) }
+{
+    let word = first.text;
+    let directive = directive_of(word);
+    if begins_statement(directive, word) {
+        formed(None, directed_or(directive, word, rest))
+    } else if name_of(word).is_some() {
         None
     } else {
-        formed(Some(first.text), labelled(after_colon(rest)))
+        formed(Some(word), labelled(after_colon(rest)))
     }
+}
+
+/// Whether a word, which is this directive if it is one, is no label, but names a directive or an operation.
+#[tactic(auto, unfolding(crate::specs::Forms::begins_statement))]
+fn begins_statement(directive: Option<Directive>, word: &[u8]) -> bool
+    requires { directive ≡ directive_of word.now }
+    ensures { result ≡ begins_statement word.now }
+{
+    directive.is_some() || is_operation(word)
 }
 
 /// A label with a statement, if the statement may have it.

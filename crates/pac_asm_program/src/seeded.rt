@@ -47,10 +47,20 @@ impl Hasher for Gathering {
     #[tactic(auto, using(crate::proofs::Hashed::both_written, crate::proofs::Hashed::nothing_written))]
     fn write(&mut self, bytes: &[u8]) {
         if self.bytes.try_extend_from_slice(bytes).is_err() {
-            self.hasher.write(&self.bytes);
-            self.hasher.write(bytes);
-            self.bytes.clear();
+            self.hand_over(bytes);
         }
+    }
+}
+
+impl Gathering {
+    /// Hands over the bytes that were gathered, and these after them.
+    #[tactic(auto, using(crate::proofs::Hashed::both_written, crate::proofs::Hashed::nothing_written))]
+    fn hand_over(&mut self, bytes: &[u8])
+        ensures { self.new ≡ write self.old bytes.now }
+    {
+        self.hasher.write(&self.bytes);
+        self.hasher.write(bytes);
+        self.bytes.clear();
     }
 }
 
