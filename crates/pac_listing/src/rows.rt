@@ -119,6 +119,14 @@ fn put_item<W: Out>(
     put_further_rows(pending, file, at.wrapping_add(4), after_row(bytes))
 }
 
+/// What stands in place of the bytes of a skipped line.
+#[inline]
+fn skipped() -> [u8; 8]
+    ensures { result ≡ codes "-       " }
+{
+    *b"-       "
+}
+
 /// The rows of a line, by what it puts into the program.
 #[tactic(auto, unfolding(crate::specs::Listing::line_rows))]
 pub(crate) fn put_line<W: Out>(
@@ -133,7 +141,7 @@ pub(crate) fn put_line<W: Out>(
 {
     match line {
         Line::Blank => put_first_row(pending, file, number, *b"    ", *b"        ", text),
-        Line::Skipped => put_first_row(pending, file, number, *b"    ", *b"-       ", text),
+        Line::Skipped => put_first_row(pending, file, number, *b"    ", skipped(), text),
         Line::Placed(item) => {
             let bytes = item.content().bytes();
             put_item(pending, file, number, item.at(), bytes.as_slice(), text)
