@@ -1,6 +1,7 @@
 //! What can be wrong with a script.
 
 ghost use Rattle.std.specs.Prelude.{◌≡◌, Some};
+ghost use Rattle.pac_inputs.specs.Codes.{script_code_text};
 ghost use Rattle.pac_inputs.specs.declared.fault.ScriptError.TheVariants as errors;
 
 use std::alloc::AllocError;
@@ -38,15 +39,23 @@ pub enum ScriptError {
 }
 
 impl fmt::Display for ScriptCode {
-    ghost use Rattle.pac_inputs.specs.Codes.{script_code_text};
-
     ghost output = { λ code. Some (script_code_text code) };
 
+    /// `I1`, `I2` or `I3`.
     fn fmt<W: fmt::Write>(&self, f: &mut fmt::Formatter<W>) -> fmt::Result {
+        f.write_str(self.text())
+    }
+}
+
+impl ScriptCode {
+    /// The code, as it is told.
+    fn text(&self) -> &'static str
+        ensures { result.now ≡ script_code_text self.now }
+    {
         match self {
-            ScriptCode::Names => write!(f, "I1"),
-            ScriptCode::Count => write!(f, "I2"),
-            ScriptCode::Length => write!(f, "I3"),
+            ScriptCode::Names => "I1",
+            ScriptCode::Count => "I2",
+            ScriptCode::Length => "I3",
         }
     }
 }
