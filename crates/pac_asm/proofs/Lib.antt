@@ -15,3 +15,4 @@ pub mod Agreed
 pub mod Assigned
 pub mod Unique
 pub mod Entered
+pub mod Coded

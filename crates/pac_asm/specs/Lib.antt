@@ -1,4 +1,5 @@
 pub mod Codes
+pub mod CodesProofs
 pub mod Results
 pub mod Errors
 pub mod Conditions

@@ -1,6 +1,7 @@
 //! What can be wrong with a source.
 
 ghost use Rattle.std.specs.Prelude.{◌≡◌, Some};
+ghost use Rattle.pac_asm.specs.CodesProofs.{fault_of_token, own_code};
 ghost use Rattle.pac_asm.specs.declared.fault.AsmError.TheVariants as errors;
 ghost use Rattle.pac_asm.specs.declared.fault.LineError.TheVariants as line;
 ghost use Rattle.pac_asm.specs.Errors.{error_of_line};
@@ -69,21 +70,44 @@ impl fmt::Display for AsmCode {
     ghost output = { λ code. Some (asm_code_text code) };
 
     /// `A2`, or `A1 L3`.
+    #[tactic(auto, using(crate::proofs::Coded::coded))]
     fn fmt<W: fmt::Write>(&self, f: &mut fmt::Formatter<W>) -> fmt::Result {
+        match self.token_fault() {
+            Some(fault) => write!(f, "A1 {fault}"),
+            None => f.write_str(self.own_code()),
+        }
+    }
+}
+
+impl AsmCode {
+    /// What is wrong with a token, if that is what is wrong.
+    fn token_fault(&self) -> Option<pac_lex::LexFault>
+        ensures { result ≡ fault_of_token self.now }
+    {
         match self {
-            AsmCode::Token(fault) => write!(f, "A1 {fault}"),
-            AsmCode::Syntax => f.write_str("A2"),
-            AsmCode::DefinedBefore => f.write_str("A3"),
-            AsmCode::NotDefinedAbove => f.write_str("A4"),
-            AsmCode::OutsideRom => f.write_str("A5"),
-            AsmCode::Overlap => f.write_str("A6"),
-            AsmCode::TooManyLines => f.write_str("A7"),
-            AsmCode::Undefined => f.write_str("A8"),
-            AsmCode::OutOfRange => f.write_str("A9"),
-            AsmCode::Arithmetic => f.write_str("A10"),
-            AsmCode::TooDeep => f.write_str("A12"),
-            AsmCode::NoOpenIf => f.write_str("A13"),
-            AsmCode::NeverClosed => f.write_str("A14"),
+            AsmCode::Token(fault) => Some(*fault),
+            _ => None,
+        }
+    }
+
+    /// The code, without what is wrong with a token.
+    fn own_code(&self) -> &'static str
+        ensures { result.now ≡ own_code self.now }
+    {
+        match self {
+            AsmCode::Token(_) => "A1",
+            AsmCode::Syntax => "A2",
+            AsmCode::DefinedBefore => "A3",
+            AsmCode::NotDefinedAbove => "A4",
+            AsmCode::OutsideRom => "A5",
+            AsmCode::Overlap => "A6",
+            AsmCode::TooManyLines => "A7",
+            AsmCode::Undefined => "A8",
+            AsmCode::OutOfRange => "A9",
+            AsmCode::Arithmetic => "A10",
+            AsmCode::TooDeep => "A12",
+            AsmCode::NoOpenIf => "A13",
+            AsmCode::NeverClosed => "A14",
         }
     }
 }
