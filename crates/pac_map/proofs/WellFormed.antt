@@ -1,6 +1,6 @@
 -- A view stays one that a board can have, at power-on and whatever happens to the board.
 use Rattle.std.proofs.Common.{◌≡◌, ◌≢◌, ℕ, zero, suc, ◌+◌, ◌%◌, ◌<◌, ◌≤◌, ◌==◌, Bool, true, false, cond, refl, sym, ap, ◌∙◌, arith}
-use Rattle.std.proofs.Common.{List, length, slice_index, slice_set, nat_lt}
+use Rattle.std.proofs.Common.{List, length, slice_index, slice_set, nat_lt, rules}
 use Rattle.std.proofs.Math.Nat.{min-le_left}
 use Rattle.std.proofs.lemmas.Bool.Decides.{nat_tests}
 use Rattle.std.proofs.lemmas.Grind.{get_or-set_at}
@@ -84,62 +84,16 @@ set-keeps registers register byte place holds = choose (place == register) refl 
 -- a view whose latch alone changes, as to a count in its range
 latched-well-formed : (view : View) (latched : Latched) → latched.count ≤ watchdog_limit → IsWellFormed view
     → IsWellFormed (record view { latched = latched })
-latched-well-formed view latched low well = record {
-  tile = well.tile;
-  colour = well.colour;
-  work = well.work;
-  coordinates = well.coordinates;
-  registers = well.registers;
-  nibbles = well.nibbles;
-  count = low;
-}
+latched-well-formed view latched low well = search rules
 
 written-well-formed : (view : View) (place : BusPlace) (byte : ℕ) → IsWellFormed view → IsWellFormed (view_after_write view place byte)
-written-well-formed view (Tile cell) byte well = record {
-  tile = length-set view.tile cell byte ∙ well.tile;
-  colour = well.colour;
-  work = well.work;
-  coordinates = well.coordinates;
-  registers = well.registers;
-  nibbles = well.nibbles;
-  count = well.count;
-}
-written-well-formed view (Colour cell) byte well = record {
-  tile = well.tile;
-  colour = length-set view.colour cell byte ∙ well.colour;
-  work = well.work;
-  coordinates = well.coordinates;
-  registers = well.registers;
-  nibbles = well.nibbles;
-  count = well.count;
-}
-written-well-formed view (Work cell) byte well = record {
-  tile = well.tile;
-  colour = well.colour;
-  work = length-set view.work cell byte ∙ well.work;
-  coordinates = well.coordinates;
-  registers = well.registers;
-  nibbles = well.nibbles;
-  count = well.count;
-}
-written-well-formed view (Coordinate place) byte well = record {
-  tile = well.tile;
-  colour = well.colour;
-  work = well.work;
-  coordinates = length-set view.coordinates place byte ∙ well.coordinates;
-  registers = well.registers;
-  nibbles = well.nibbles;
-  count = well.count;
-}
-written-well-formed view (Wave register) byte well = record {
-  tile = well.tile;
-  colour = well.colour;
-  work = well.work;
-  coordinates = well.coordinates;
-  registers = length-set view.registers register (kept_nibble register byte) ∙ well.registers;
-  nibbles = λ place. set-keeps view.registers register byte place well.nibbles;
-  count = well.count;
-}
+written-well-formed view (Tile cell) byte well = search (rules, length-set)
+written-well-formed view (Colour cell) byte well = search (rules, length-set)
+written-well-formed view (Work cell) byte well = search (rules, length-set)
+written-well-formed view (Coordinate place) byte well = search (rules, length-set)
+written-well-formed view (Wave register) byte well =
+    let keeps : (place : ℕ) → _ = λ place. set-keeps view.registers register byte place well.nibbles in
+    search (rules, length-set)
 written-well-formed view (Latch place) byte well =
     latched-well-formed view (latched_after_bit view.latched place (byte % 2 == 1)) well.count well
 written-well-formed view Kick byte well = latched-well-formed view (latched_after_kick view.latched) (omega arith) well
@@ -152,13 +106,5 @@ view-after-well-formed view (Blank frame) well =
     latched-well-formed view (latched_after_blank view.latched) (min-le_left watchdog_limit (view.latched.count + 1)) well
 view-after-well-formed view Accept well = latched-well-formed view (latched_after_accept view.latched) well.count well
 view-after-well-formed view Reset well = latched-well-formed view (latched_after_reset view.latched) (omega arith) well
-view-after-well-formed view (Hold mask) well = record {
-  tile = well.tile;
-  colour = well.colour;
-  work = well.work;
-  coordinates = well.coordinates;
-  registers = well.registers;
-  nibbles = well.nibbles;
-  count = well.count;
-}
+view-after-well-formed view (Hold mask) well = search rules
 view-after-well-formed view _ well = well
