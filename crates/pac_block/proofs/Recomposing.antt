@@ -1,6 +1,6 @@
 -- Lines of the picture in a block that are composed again, from the top.
 use Rattle.std.proofs.Common.{◌≡◌, ◌<◌, ◌≤◌, ℕ, zero, suc, ◌+◌, ◌*◌, List, [], ◌∷◌, ◌++◌, length, get_or, take, drop}
-use Rattle.std.proofs.Common.{refl, sym, ap, subst, ◌∙◌, arith, append_assoc}
+use Rattle.std.proofs.Common.{refl, sym, ap, subst, ◌∙◌, arith, append_assoc, rules}
 use Rattle.std.proofs.Math.Seq.{take-append_seam, drop-append_seam, drop-cons}
 use Rattle.std.proofs.lemmas.Grind.{flat_map-append, common_steps}
 use Rattle.std.proofs.lemmas.Bool.{cases_lt}
@@ -124,18 +124,6 @@ line-put roms memory state y line old new is below composed text put =
 
 pub recomposed-is-state : (roms : VideoRoms) (memory : VideoMemory) (count : ℕ) (state : BoardState) → count ≤ 224 → IsState state
     → IsState (state_with_lines roms memory count state)
-recomposed-is-state roms memory count state within is = record {
-  words = is.words;
-  memory = is.memory;
-  held = is.held;
-  sample = is.sample;
-  range = record {
-    registers = is.range.registers;
-    count = is.range.count;
-    accumulators = is.range.accumulators;
-    steps = is.range.steps;
-    time = is.range.time;
-    asked = is.range.asked;
-    picture = composed-picture roms memory count state.now.board.lines is.range.picture within;
-  };
-}
+recomposed-is-state roms memory count state within is =
+    let picture = composed-picture roms memory count state.now.board.lines is.range.picture within in
+    search rules

@@ -1,5 +1,5 @@
 -- The front of the board that holds other inputs: its ROMs make no difference.
-use Rattle.std.proofs.Common.{ℕ, ap, subst, refl, ◌∙◌}
+use Rattle.std.proofs.Common.{ℕ, ap, rules, subst, refl, ◌∙◌}
 use Rattle.pac_board.specs.Fields.{state_of}
 use Rattle.pac_board.specs.Inputs.{mask}
 use Rattle.pac_board.specs.MemoryView.{held_with, held_without}
@@ -16,15 +16,7 @@ with_held state held = record {
 }
 
 pub block_front-requires : goal.block_front-requires
-block_front-requires c = record {
-  registers = c.in_ok-fields.ensures.in_range.registers;
-  count = c.in_ok-fields.ensures.in_range.count;
-  accumulators = c.in_ok-fields.ensures.in_range.accumulators;
-  steps = c.in_ok-fields.ensures.in_range.steps;
-  time = c.in_ok-fields.ensures.in_range.time;
-  asked = c.in_ok-fields.ensures.in_range.asked;
-  picture = c.in_ok-fields.ensures.in_range.picture;
-}
+block_front-requires c = let range = c.in_ok-fields.ensures.in_range in search rules
 
 pub returns : goal.returns
 returns c =

@@ -1,5 +1,5 @@
 -- The front of the board that is reset: its ROMs make no difference.
-use Rattle.std.proofs.Common.{ap, subst, sym, refl, ◌∙◌}
+use Rattle.std.proofs.Common.{ap, rules, subst, sym, refl, ◌∙◌}
 use Rattle.pac_board.specs.Fields.{state_of}
 use Rattle.pac_board.specs.MemoryFields.{view_of_fields}
 use Rattle.pac_board.specs.MemoryView.{View, HoldWhatTheyCan}
@@ -23,16 +23,10 @@ reset_memory-memory-requires c = c.in_ok-fields.ensures.in_range.count
 
 pub block_front-requires : goal.block_front-requires
 block_front-requires c =
+    let kept = subst HoldWhatTheyCan (sym (ap (λ (view : View). view.registers) c.reset_memory-memory.ensures.view)) c.in_ok-fields.ensures.in_range.registers in
     let range = c.in_ok-fields.ensures.in_range in
-    record {
-      registers = subst HoldWhatTheyCan (sym (ap (λ (view : View). view.registers) c.reset_memory-memory.ensures.view)) range.registers;
-      count = c.reset_memory-memory.ensures.count;
-      accumulators = range.accumulators;
-      steps = range.steps;
-      time = range.time;
-      asked = range.asked;
-      picture = range.picture;
-    }
+    let count = c.reset_memory-memory.ensures.count in
+    search rules
 
 pub returns : goal.returns
 returns c =
