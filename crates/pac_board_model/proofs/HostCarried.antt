@@ -35,9 +35,6 @@ module _ {From To : Type 0} (view : From → To) (account : Account From) (other
   put-carried entry now =
       λ i. record { regs = now.regs; board = carries.put now.board entry i; time = now.time; steps = now.steps }
 
-  abbrev moved : Host From → Moment To → Host To
-  moved host now = record { now = now; kept = map seen host.kept; outputs = host.outputs }
-
   act-carried : (host : Host From) (act : Act) → host_view view (after_act account host act) ≡ after_act other (host_view view host) act
   act-carried host act = grind (arith, kept-at, kept-more, put-carried, step-carried, step-kept)
 

@@ -1,7 +1,7 @@
 -- Each line of a frame's picture is composed at its own moment: when the frame's blank comes, the last composing of each line
 -- was for this frame.
 use Rattle.std.proofs.lemmas.Grind.{common_steps}
-use Rattle.std.proofs.Common.{◌≡◌, ◌≢◌, ℕ, suc, ◌+◌, ◌-◌, ◌/◌, ◌%◌, ◌==◌, ◌<◌, ◌≤◌, if◌then◌else◌, Bool, true, false}
+use Rattle.std.proofs.Common.{◌≡◌, ℕ, suc, ◌+◌, ◌-◌, ◌/◌, ◌==◌, ◌<◌, ◌≤◌, if◌then◌else◌, Bool, true, false}
 use Rattle.std.proofs.Common.{List, [], ◌∷◌, ◌++◌, refl, sym, ap, subst, ◌∙◌, arith, rules}
 use Rattle.std.proofs.lemmas.Bool.Decides.{nat_tests}
 use Rattle.pac_cpu.specs.PlacedItems.{Item}
@@ -14,9 +14,9 @@ use Rattle.pac_board_model.specs.BoardView.{BoardView, power_on_board_view, vide
 use Rattle.pac_board_model.specs.Laws.{IsComposed, PicturesAreLineExact, line_moment}
 use Rattle.pac_board_model.specs.Shown.{memory_at, line_at}
 use Rattle.pac_board_model.specs.Step.{Questions, StepProgress, sample_event, line_event, blank_event, at_moment, scan_line, scan_frame}
-use Rattle.pac_board_model.specs.Step.{sample_ticks, line_ticks, frame_ticks, hidden_lines}
+use Rattle.pac_board_model.specs.Step.{sample_ticks, line_ticks, hidden_lines}
 use Rattle.pac_board_model.specs.Trace.{by_history}
-use Rattle.pac_board_model.proofs.LinesPlaced.{IsPlaced, is-end, placed-later, placed-now, sampled-now}
+use Rattle.pac_board_model.proofs.LinesPlaced.{IsPlaced, placed-later, placed-now, sampled-now}
 use Rattle.pac_board_model.proofs.RunsKeep.{is_quiet, ends_line, sampled-holds, lined-holds, run-told}
 
 -- the frame for which a line was last composed, 0 where it never was
@@ -91,21 +91,8 @@ exact-at from (entry ∷ later) older frame exact = exact-at from later older fr
 
 -- ---- from one moment to the next
 
--- lines of the scan end one by one: after q of them line y of the picture, and its frame
-line-of-frame : (q y : ℕ) → hidden_lines ≤ (q + 263) % 264 → (q + 263) % 264 - hidden_lines ≡ y → (q + 263) / 264 ≡ (q + (223 - y)) / 264
-line-of-frame q y shown same = omega arith
-
-line-stays : (time moment : ℕ) → moment ≡ suc time → moment % line_ticks ≢ 0 → moment / line_ticks ≡ time / line_ticks
-line-stays time moment next over = omega arith
-
-line-ends : (moment y : ℕ) → ends_line moment ≡ true → scan_line moment - hidden_lines ≡ y → scan_frame moment ≡ compositions y moment
-line-ends moment y ends same = line-of-frame (moment / line_ticks) y (is-end moment ends).1 same
-
 no-line : (time moment y : ℕ) → moment ≡ suc time → y < height → ends_line moment ≡ false → compositions y time ≡ compositions y moment
 no-line time moment y next below ends = grind (arith, common_steps)
-
-frame-done : (moment y : ℕ) → y < height → moment % frame_ticks ≡ 0 → compositions y moment ≡ moment / frame_ticks
-frame-done moment y below ends = omega arith
 
 -- ---- the run
 

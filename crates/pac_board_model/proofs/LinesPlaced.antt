@@ -1,15 +1,10 @@
 -- Lines are composed at their own moments and at no others: each one among the entries comes right after its moment's sample.
-use Rattle.std.proofs.Common.{◌≡◌, ℕ, ◌-◌, ◌/◌, ◌%◌, ◌<◌, ◌≤◌, if◌then◌else◌, Bool, true, false, rules}
-use Rattle.std.proofs.Common.{List, [], ◌∷◌, ◌++◌, refl, sym, arith}
+use Rattle.std.proofs.Common.{◌≡◌, ℕ, ◌-◌, ◌/◌, ◌<◌, ◌≤◌, if◌then◌else◌, Bool, true, false, rules, List, [], ◌∷◌, ◌++◌, refl, sym, arith}
 use Rattle.pac_map.specs.Entry.{Entry, Sample, Line}
 use Rattle.pac_picture.specs.Tiles.{height}
 use Rattle.pac_board_model.specs.Laws.{IsLineInTime, LinesHaveNoOtherMoments, line_moment}
-use Rattle.pac_board_model.specs.Step.{Questions, StepProgress, sample_event, scan_line, scan_frame, sample_ticks, line_ticks, hidden_lines}
-use Rattle.pac_board_model.proofs.RunsKeep.{is_quiet, ends_line, with_line}
-
--- the test of a line's end, as numbers
-pub is-end : (moment : ℕ) → ends_line moment ≡ true → (moment % line_ticks ≡ 0) × (hidden_lines ≤ scan_line moment)
-is-end moment h = search rules
+use Rattle.pac_board_model.specs.Step.{Questions, StepProgress, sample_event, scan_line, scan_frame, sample_ticks, hidden_lines}
+use Rattle.pac_board_model.proofs.RunsKeep.{ends_line, with_line}
 
 pub line-placed : (moment : ℕ) → 1 ≤ moment → ends_line moment ≡ true
     → (1 ≤ scan_frame moment) × (scan_line moment - hidden_lines < height)
@@ -33,10 +28,6 @@ abbrev pub IsPlaced : (from to : ℕ) → List Entry → Type 0
 IsPlaced from to [] = Unit {0}
 IsPlaced from to (Line frame y ∷ older) = IsLineInTime from to frame y older × IsPlaced from to older
 IsPlaced from to (entry ∷ older) = IsPlaced from to older
-
-pub quiet-placed : (from to : ℕ) (entry : Entry) (entries : List Entry) → is_quiet entry ≡ true → IsPlaced from to entries
-    → IsPlaced from to (entry ∷ entries)
-quiet-placed from to entry entries h placed = search rules
 
 pub placed-later : (from to later : ℕ) (entries : List Entry) → to ≤ later → IsPlaced from to entries → IsPlaced from later entries
 placed-later from to later [] less placed = tt

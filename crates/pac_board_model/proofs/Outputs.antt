@@ -70,10 +70,6 @@ quiet-samples entry entries h = grind (arith, not-both)
 quiet-blanks : (entry : Entry) (entries : List Entry) → is_quiet entry ≡ true → blank_count (entry ∷ entries) ≡ blank_count entries
 quiet-blanks entry entries h = grind (arith, not-both)
 
--- from one moment to the next the count of samples, or of frames, grows where one ends
-pub sample-ends : (time moment : ℕ) → moment ≡ suc time → moment % sample_ticks ≡ 0 → suc (time / sample_ticks) ≡ moment / sample_ticks
-sample-ends time moment next ends = omega arith
-
 pub sample-lasts : (time moment : ℕ) → moment ≡ suc time → moment % sample_ticks ≢ 0 → time / sample_ticks ≡ moment / sample_ticks
 sample-lasts time moment next lasts = omega arith
 

@@ -58,12 +58,6 @@ resumed-runs-end ask play from = grind (arith, ended-is-resumed, enough-is-resum
 -- ---- from power-on no frame has gone by
 
 module _ {Board : Type 0} (ask : Questions Board) (play : Play) (board : Board) where
-  abbrev power : Moment Board
-  power = power_on_moment (ask.put board (Hold (play.held 1)))
-
-  same-end : frame_ticks * (0 + play.frames) ≡ frame_ticks * play.frames
-  same-end = omega arith
-
   pub begins-at : (index : ℕ) → resumed_at ask play (power_on_moment board) index ≡ run_at ask play board index
   begins-at index = search rules
 
@@ -153,10 +147,6 @@ module _ {Board : Type 0} (ask : Questions Board) (held other : ℕ → ℕ) (en
 
 module _ {Board : Type 0} (ask : Questions Board) (held other : ℕ → ℕ) (ended : ℕ)
     (same : (frame : ℕ) → ended < frame → held frame ≡ other frame) (limit : ℕ) where
-  next-same : (now : Moment Board) (h : Next Board) → IsTimely now h → frame_ticks * ended ≤ now.time
-      → next_with_inputs ask held now.time h ≡ next_with_inputs ask other now.time h
-  next-same now h times begun = search rules
-
   onward-same : (w : Walk Board) (over : Bool) → has_ended limit w ≡ over → (over ≡ false → frame_ticks * ended ≤ w.now.time)
       → walk_onward (play_step ask held) limit w ≡ walk_onward (play_step ask other) limit w
   onward-same w over e begun = search rules
@@ -260,10 +250,6 @@ module _ {Board : Type 0} (ask : Questions Board) (first second : Play) (from : 
   module _ (last_held : LastIsHeld ask) (open_yet : (resumed ask first from).stop ≡ None) where
     abbrev middle : Moment Board
     middle = (resumed ask first from).now
-
-    -- the second play's inputs take the place of those that the first play's last blank left
-    abbrev with_board : Moment Board → Board → Moment Board
-    with_board now board = record now { board = board }
 
     record Meets : Type 0 where
       start : resumed_start ask second middle ≡ half.now

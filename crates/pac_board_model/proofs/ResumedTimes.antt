@@ -1,11 +1,11 @@
 -- The samples and the pictures of a play that is taken up at any moment: how many have come by when.
-use Rattle.std.proofs.Common.{◌≡◌, ℕ, suc, ◌+◌, ◌/◌, ◌%◌, List, [], ◌∷◌, ◌++◌, refl, sym, ap, ◌∙◌, append_assoc, arith}
+use Rattle.std.proofs.Common.{◌≡◌, ℕ, suc, ◌+◌, ◌/◌, ◌%◌, List, [], ◌∷◌, ◌++◌, refl, sym, ap, ◌∙◌, append_assoc, arith, rules}
 use Rattle.pac_board_model.specs.Output.{Output, Sound, Show, sound_count, picture_count}
 use Rattle.pac_board_model.specs.Resumed.{ResumedRunsAreTimed, ResumedRunsHaveTheirFrames}
 use Rattle.pac_board_model.specs.Step.{Questions, StepProgress, sample_event, line_event, at_moment, sample_ticks, frame_ticks}
 use Rattle.pac_board_model.specs.Trace.{frames_gone, resumed_end}
 use Rattle.pac_board_model.proofs.Outputs.{sample-lasts, frame-ends, frame-lasts}
-use Rattle.pac_board_model.proofs.Resumed.{resumed-late, resumed-below, resumed-gone}
+use Rattle.pac_board_model.proofs.Resumed.{resumed-below, resumed-gone}
 use Rattle.pac_board_model.proofs.RunsKeep.{sampled-holds, lined-holds, blanked-holds, resumed-told}
 
 -- ---- one output more
@@ -45,15 +45,12 @@ module _ {Board : Type 0} (ask : Questions Board) (given : List Output) (before 
       let sounded = sample_event ask moment met in
       let seen = line_event ask moment sounded in
       let sound = Sound (ask.sample met.board) in
-      let picture = Show (ask.image seen.board) in
       let one = ap sound_count (sym (append_assoc given met.outputs (sound ∷ [])))
       ∙ sound-counts (given ++ met.outputs) (ask.sample met.board) in
-      let none = ap sound_count (sym (append_assoc given seen.outputs (picture ∷ [])))
+      let none = ap sound_count (sym (append_assoc given seen.outputs ((Show (ask.image seen.board)) ∷ [])))
       ∙ sound-stays (given ++ seen.outputs) (ask.image seen.board) in
       let first = sampled-holds ask Counted moment met
-      (λ ends.
-      let counted : sound_count (given ++ (met.outputs ++ sound ∷ [])) + before ≡ moment / sample_ticks = omega (arith, one, h) in
-      counted)
+      (λ ends. search rules)
       (λ lasts. h ∙ sample-lasts time moment next lasts) in
       let second = lined-holds ask Counted moment sounded (λ _. first) (λ _. first) in
       let third = ap (λ count. count + before) none ∙ second in
@@ -70,9 +67,8 @@ module _ {Board : Type 0} (ask : Questions Board) (given : List Output) (before 
       let Counted = HasPictures (time / frame_ticks) in
       let sounded = sample_event ask moment met in
       let seen = line_event ask moment sounded in
-      let sound = Sound (ask.sample met.board) in
       let picture = Show (ask.image seen.board) in
-      let none = ap picture_count (sym (append_assoc given met.outputs (sound ∷ [])))
+      let none = ap picture_count (sym (append_assoc given met.outputs ((Sound (ask.sample met.board)) ∷ [])))
       ∙ picture-stays (given ++ met.outputs) (ask.sample met.board) in
       let one = ap picture_count (sym (append_assoc given seen.outputs (picture ∷ [])))
       ∙ picture-counts (given ++ seen.outputs) (ask.image seen.board) in
@@ -105,14 +101,13 @@ resumed-runs-have-their-frames ask play from open_yet =
     let gone = frames_gone from in
     let timed = resumed-runs-are-timed ask play from (resumed_end play gone) in
     let frames = resumed-gone ask play from open_yet in
-    let late = resumed-late ask play from open_yet in
     record {
       pictures = let pictures = timed.pictures in omega (arith, pictures, frames);
       gone = frames;
       samples = λ near.
           let below = resumed-below ask play from (resumed_end play gone + sample_ticks) (omega arith) (omega arith) in
-          let samples = timed.samples in omega (arith, samples, late, below, near);
+          let samples = timed.samples in omega (arith, samples, below, near);
       near = λ near.
           let below = resumed-below ask play from (resumed_end play gone + sample_ticks) (omega arith) (omega arith) in
-          omega (arith, late, below, near);
+          omega (arith, below, near);
     }

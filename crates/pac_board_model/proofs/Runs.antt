@@ -1,5 +1,5 @@
 -- Runs: they end, and they are their frames, one played after another.
-use Rattle.std.proofs.Common.{◌≡◌, ℕ, zero, suc, ◌+◌, ◌*◌, ◌/◌, ◌==◌, if◌then◌else◌, ◌<◌, ◌≤◌, Option, None, Some, Bool, true, false, not}
+use Rattle.std.proofs.Common.{◌≡◌, ℕ, zero, suc, ◌+◌, ◌*◌, if◌then◌else◌, ◌<◌, ◌≤◌, Option, None, Some, Bool, true, false}
 use Rattle.std.proofs.Common.{nat_le, refl, ap, ◌∙◌, arith, rules}
 use Rattle.pac_cpu.specs.declared.once.Stop.{Stop}
 use Rattle.pac_cpu.specs.Instructions.{most_ticks}
@@ -65,11 +65,6 @@ module _ {Board : Type 0} (ask : Questions Board) (held : ℕ → ℕ) (frames :
 
   abbrev pub closed : Walk Board → Walk Board
   closed w = closed_if w w.stop (nat_le limit w.now.time)
-
-  -- a step from within the frame stays there, or passes its end
-  same-frame : (before after : ℕ) → frame_ticks * frames ≤ before → before < limit → before ≤ after → after ≤ before + most_ticks
-      → (before / frame_ticks == after / frame_ticks) ≡ not (nat_le limit after)
-  same-frame before after from early later short = search rules
 
   -- a step more of the closed walk, by whether it has ended
   onward-closed : (w : Walk Board) (ended : Bool) → has_ended limit w ≡ ended → (ended ≡ false → frame_ticks * frames ≤ w.now.time)

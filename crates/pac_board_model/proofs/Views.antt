@@ -1,6 +1,6 @@
 -- The view that a history leaves answers as the history does.
 use Rattle.std.proofs.Common.{◌≡◌, ℕ, ◌<◌, List, [], ◌∷◌, Bool, rules}
-use Rattle.std.proofs.Common.{cond, Option, Some, unwrap_or, refl, sym, ap, ◌∙◌, slice_index, length, arith}
+use Rattle.std.proofs.Common.{cond, Option, Some, unwrap_or, refl, sym, ◌∙◌, slice_index, length, arith}
 use Rattle.pac_map.specs.declared.bus_table.BusPlace.{BusPlace}
 use Rattle.pac_map.specs.declared.bus_table.BusPlace.TheVariants.{Tile, Colour, Work, Wave, Coordinate}
 use Rattle.pac_map.specs.Place.{read_place, ram_size, coordinates_size, registers_size}
@@ -10,14 +10,13 @@ use Rattle.pac_map.specs.Entry.{Entry, Write, Hold, view_after_write}
 use Rattle.pac_map.specs.View.{View, IsWellFormed, kept_nibble}
 use Rattle.pac_map.specs.Contents.{lookups_of, read_of}
 use Rattle.pac_map.proofs.WellFormed.{view-after-well-formed}
-use Rattle.pac_board_model.specs.History.{is_same_place, last_written, tile_at, colour_at, work_at, last_held, history_lookups, read}
+use Rattle.pac_board_model.specs.History.{is_same_place, tile_at, colour_at, work_at, last_held, history_lookups, read}
 use Rattle.pac_board_model.specs.History.{coordinate_at, register_at}
 use Rattle.pac_board_model.specs.HistoryProofs.{view_after_entries}
 
 pub view-of-well-formed : (start : View) (entries : List Entry) → IsWellFormed start → IsWellFormed (view_after_entries start entries)
 view-of-well-formed start [] sized = sized
-view-of-well-formed start (entry ∷ older) sized =
-    view-after-well-formed (view_after_entries start older) entry (view-of-well-formed start older sized)
+view-of-well-formed start (entry ∷ older) sized = view-after-well-formed _ _ (view-of-well-formed start older sized)
 
 -- what a write decides comes before what older ones do
 decided : (holds : ℕ → ℕ) (here : Bool) (byte : ℕ) (older : Option ℕ) (first : ℕ)
@@ -51,55 +50,34 @@ pub tile-viewed : (start : View) (entries : List Entry) (cell : ℕ) → IsWellF
     → slice_index (view_after_entries start entries).tile cell ≡ tile_at start entries cell
 tile-viewed start [] cell well lt = refl
 tile-viewed start (Write to byte ∷ older) cell well lt =
-    let sized = (view-of-well-formed start older well).tile in
-    tile-written (view_after_entries start older) to byte cell (omega arith)
-    ∙ ap (cond (is_same_place (Tile cell) to) byte) (tile-viewed start older cell well lt)
-    ∙ decided (λ byte. byte) (is_same_place (Tile cell) to) byte (last_written (is_same_place (Tile cell)) older)
-    (slice_index start.tile cell)
+    grind (arith, decided, tile-written, view-of-well-formed, tile-viewed start older cell well lt)
 tile-viewed start (entry ∷ older) cell well lt = tile-viewed start older cell well lt
 
 pub colour-viewed : (start : View) (entries : List Entry) (cell : ℕ) → IsWellFormed start → cell < ram_size
     → slice_index (view_after_entries start entries).colour cell ≡ colour_at start entries cell
 colour-viewed start [] cell well lt = refl
-colour-viewed start (Write to byte ∷ older) cell well lt =
-    let sized = (view-of-well-formed start older well).colour in
-    colour-written (view_after_entries start older) to byte cell (omega arith)
-    ∙ ap (cond (is_same_place (Colour cell) to) byte) (colour-viewed start older cell well lt)
-    ∙ decided (λ byte. byte) (is_same_place (Colour cell) to) byte (last_written (is_same_place (Colour cell)) older)
-    (slice_index start.colour cell)
+colour-viewed start (Write to byte ∷ older) cell well lt = let sized = (view-of-well-formed _ older well).colour in
+    grind (arith, colour-written, decided, colour-viewed start older cell well lt)
 colour-viewed start (entry ∷ older) cell well lt = colour-viewed start older cell well lt
 
 pub work-viewed : (start : View) (entries : List Entry) (cell : ℕ) → IsWellFormed start → cell < ram_size
     → slice_index (view_after_entries start entries).work cell ≡ work_at start entries cell
 work-viewed start [] cell well lt = refl
-work-viewed start (Write to byte ∷ older) cell well lt =
-    let sized = (view-of-well-formed start older well).work in
-    work-written (view_after_entries start older) to byte cell (omega arith)
-    ∙ ap (cond (is_same_place (Work cell) to) byte) (work-viewed start older cell well lt)
-    ∙ decided (λ byte. byte) (is_same_place (Work cell) to) byte (last_written (is_same_place (Work cell)) older)
-    (slice_index start.work cell)
+work-viewed start (Write to byte ∷ older) cell well lt = let sized = (view-of-well-formed _ older well).work in grind (arith, decided, work-written, work-viewed start older cell well lt)
 work-viewed start (entry ∷ older) cell well lt = work-viewed start older cell well lt
 
 pub coordinate-viewed : (start : View) (entries : List Entry) (place : ℕ) → IsWellFormed start → place < coordinates_size
     → slice_index (view_after_entries start entries).coordinates place ≡ coordinate_at start entries place
 coordinate-viewed start [] place well lt = refl
-coordinate-viewed start (Write to byte ∷ older) place well lt =
-    let sized = (view-of-well-formed start older well).coordinates in
-    coordinate-written (view_after_entries start older) to byte place (omega arith)
-    ∙ ap (cond (is_same_place (Coordinate place) to) byte) (coordinate-viewed start older place well lt)
-    ∙ decided (λ byte. byte) (is_same_place (Coordinate place) to) byte (last_written (is_same_place (Coordinate place)) older)
-    (slice_index start.coordinates place)
+coordinate-viewed start (Write to byte ∷ older) place well lt = let sized = (view-of-well-formed _ older well).coordinates in
+    grind (arith, coordinate-written, decided, coordinate-viewed start older place well lt)
 coordinate-viewed start (entry ∷ older) place well lt = coordinate-viewed start older place well lt
 
 pub register-viewed : (start : View) (entries : List Entry) (register : ℕ) → IsWellFormed start → register < registers_size
     → slice_index (view_after_entries start entries).registers register ≡ register_at start entries register
 register-viewed start [] register well lt = sym (well.nibbles register)
-register-viewed start (Write to byte ∷ older) register well lt =
-    let sized = (view-of-well-formed start older well).registers in
-    register-written (view_after_entries start older) to byte register (omega arith)
-    ∙ ap (cond (is_same_place (Wave register) to) (kept_nibble register byte)) (register-viewed start older register well lt)
-    ∙ decided (kept_nibble register) (is_same_place (Wave register) to) byte (last_written (is_same_place (Wave register)) older)
-    (slice_index start.registers register)
+register-viewed start (Write to byte ∷ older) register well lt = let sized = (view-of-well-formed _ older well).registers in
+    grind (arith, decided, register-written, register-viewed start older register well lt)
 register-viewed start (entry ∷ older) register well lt = register-viewed start older register well lt
 
 written-held : (view : View) (place : BusPlace) (byte : ℕ) → (view_after_write view place byte).held ≡ view.held
@@ -116,13 +94,8 @@ written-switches view place byte = search rules
 
 switches-viewed : (start : View) (entries : List Entry) → (view_after_entries start entries).switches ≡ start.switches
 switches-viewed start [] = refl
-switches-viewed start (Write place byte ∷ older) = written-switches (view_after_entries start older) place byte
-    ∙ switches-viewed start older
+switches-viewed start (Write place byte ∷ older) = grind (arith, written-switches, switches-viewed start older)
 switches-viewed start (entry ∷ older) = switches-viewed start older
-
--- what a place gives where another mask of inputs is held
-abbrev with_held : List ℕ → View → List Entry → BusPlace → ℕ → ℕ
-with_held program start entries place mask = answer (record (history_lookups program start entries) { held = mask }) place
 
 answer-viewed : (program : List ℕ) (start : View) (entries : List Entry) (place : BusPlace) → IsWellFormed start → IsPlaceInRange place
     → answer (history_lookups program start entries) place ≡ answer (lookups_of program (view_after_entries start entries)) place
