@@ -1,6 +1,6 @@
 -- What the first phase makes of a line is the step that the line takes under an assignment.
 use Rattle.std.proofs.Common.{◌≡◌, ℕ, ℤ, pos, Bool, true, false, List, [], ◌∷◌, ◌++◌, Option, Some, Result, Ok, arith, rules, refl, ap, sym}
-use Rattle.std.proofs.Common.{◌∙◌, subst, length, nat_lt, if◌then◌else◌}
+use Rattle.std.proofs.Common.{◌∙◌, length, nat_lt, if◌then◌else◌}
 use Rattle.std.specs.Result.{result_map_both}
 use Rattle.std.proofs.lemmas.List.{append-nil}
 use Rattle.pac_lemmas.proofs.Options.{same-Ok}
@@ -9,8 +9,7 @@ use Rattle.pac_code.specs.Items.{Content}
 use Rattle.pac_asm_program.specs.Names.{Symbol, number_of_symbol}
 use Rattle.pac_asm_program.specs.declared.line.Line.{Line}
 use Rattle.pac_asm_program.specs.declared.line.Line.TheVariants as entries
-use Rattle.pac_asm_line.specs.Statements.{Statement, nothing, origin, equate, bytes, words, space, condition, otherwise, end_condition}
-use Rattle.pac_asm_line.specs.Statements.{operation, Form}
+use Rattle.pac_asm_line.specs.Statements.{Statement, nothing, origin, equate, space, condition, otherwise, end_condition, Form}
 use Rattle.pac_asm_line.specs.Contents.{OrFault, content_of}
 use Rattle.pac_asm.specs.declared.condition.IfState.{IfState}
 use Rattle.pac_asm.specs.declared.place.Span.{Span}
@@ -18,12 +17,12 @@ use Rattle.pac_asm.specs.declared.place.LineLayout.{LineLayout}
 use Rattle.pac_asm.specs.declared.place.LineLayout.TheVariants.{Blank, Skipped, Placed}
 use Rattle.pac_asm.specs.declared.fault.AsmCode.{AsmCode}
 use Rattle.pac_asm.specs.Results.{◌>>=◌}
-use Rattle.pac_asm.specs.Conditions.{is_judged, most_open_ifs, after_else, after_end, after_skipped}
+use Rattle.pac_asm.specs.Conditions.{is_judged, most_open_ifs, after_skipped}
 use Rattle.pac_asm.specs.Counting.{OpenIf, counts}
 use Rattle.pac_asm.specs.Unclosed.{conditional_of_line}
 use Rattle.pac_asm.specs.Standings.{Standing, value_above, within_rom, is_new, with_label, room_for}
 use Rattle.pac_asm.specs.Reading.{form_of_line}
-use Rattle.pac_asm.specs.Phase1.{after_item, after_statement, after_form, after_judged, after_passed, after_text}
+use Rattle.pac_asm.specs.Phase1.{after_item, after_statement, after_judged, after_passed, after_text}
 use Rattle.pac_asm.specs.Assignments.{Spot, LineStep, label_symbols, with_open_ifs, with_bytes, step_by, step_if, step_of}
 use Rattle.pac_asm.specs.Entries.{count_of, entry_by, entry_if, entry_of}
 use Rattle.pac_asm.specs.Phase2.{line_of, code_of_fault}
@@ -73,9 +72,7 @@ agrees : {above : Standing} {step : Option LineStep} {Holds : LineLayout → Typ
     → ◌≡◌ {A = Result Standing AsmCode} (Ok made) (Ok next) → (new : List Symbol) → step ≡ Some (new, spot_of made)
     → made.symbols ≡ above.symbols ++ new → AreNested made.conditions
     → (place : LineLayout) → made.places ≡ above.places ++ place ∷ [] → Holds place → Agrees above step Holds next
-agrees {above} {step} {Holds} made next e new stepped grown nested place added fills =
-    subst (Agrees above step Holds) (same-Ok made next e)
-    (record { new = new; stepped = stepped; grown = grown; nested = nested; place = place; added = added; fills = fills })
+agrees {above} {step} {Holds} made next e new stepped grown nested place added fills = search rules
 
 abbrev pub line_or_fault : ℕ → OrFault (Option Content) → Result Line AsmCode
 line_or_fault at content = result_map_both (line_of at) code_of_fault content
@@ -120,8 +117,7 @@ module _ (names : List ℕ → Option ℤ) (above : Standing) (extends : Extends
       → (next : Standing)
       → (answer >>= λ conditions. Ok (record above { conditions = conditions; places = above.places ++ place ∷ [] })) ≡ Ok next
       → Agrees above (with_open_ifs (spot_of above) now) shows next
-  agree-conditions answer now place shows here each next e =
-      let (conditions, is, goes) = gone answer _ next e in
+  agree-conditions answer now place shows here each next e = let (conditions, is, goes) = gone _ _ _ e in
       let o = each conditions is in
       agrees _ next goes [] (grind (arith, o)) (sym (append-nil above.symbols)) o.nested place refl here
 
@@ -129,17 +125,12 @@ module _ (names : List ℕ → Option ℤ) (above : Standing) (extends : Extends
       → is_new above.symbols label ≡ true → (next : Standing) → after_statement above label statement ≡ Ok next
       → Agrees above (step_by names (spot_of above) label statement) (Fills names (spot_of above) statement) next
   unfolding content_of
-  agree-statement label nothing inside is-new next e =
-      agrees _ next e _ refl (new-label above.symbols label (pos above.at) is-new) nest Blank refl (λ here is. ap Some (same-Ok _ here is))
+  agree-statement label nothing inside is-new next e = grind (arith, agrees, new-label, same-Ok)
   agree-statement label (origin place) inside is-new next e =
       let (z, is, goes) = known-ok (tree_value (number_of_symbol above.symbols) above.at place) _ next e in
       let (count, counted, went) = within-ok z _ next goes in
-      agrees _ next went [] (grind (arith, value-extends)) (sym (append-nil above.symbols)) nest Blank refl
-      (λ here is. ap Some (same-Ok _ here is))
-  agree-statement label (equate number) inside is-new next e =
-      let (z, is, goes) = known-ok (tree_value (number_of_symbol above.symbols) above.at number) _ next e in
-      agrees _ next goes (label_symbols label z) (grind (arith, value-extends)) (new-label above.symbols label z is-new) nest Blank refl
-      (λ here is. ap Some (same-Ok _ here is))
+      agrees _ _ went _ (grind (arith, value-extends)) (sym (append-nil above.symbols)) nest _ refl (λ here is. ap Some (same-Ok _ here is))
+  agree-statement label (equate number) inside is-new next e = grind (arith, agrees, known-ok, new-label, same-Ok, value-extends)
   agree-statement label (condition test) inside is-new next e =
       let inner = if-ok (nat_lt (length above.conditions) most_open_ifs) _ _ next e in
       let (z, is, goes) = known-ok (tree_value (number_of_symbol above.symbols) above.at test) _ next inner.1 in
@@ -147,28 +138,22 @@ module _ (names : List ℕ → Option ℤ) (above : Standing) (extends : Extends
       agrees _ next goes [] (grind (arith, opens, value-extends)) (sym (append-nil above.symbols)) o.nested Blank refl
       (λ here is. ap Some (same-Ok _ here is))
   agree-statement label otherwise inside is-new next e =
-      agree-conditions (after_else above.conditions) _ Blank _ (λ here is. ap Some (same-Ok _ here is))
-      (λ conditions is. open-else above.conditions conditions nest is) next e
+      agree-conditions _ _ _ _ (λ here is. ap Some (same-Ok _ here is)) (λ conditions is. open-else above.conditions conditions nest is) _ e
   agree-statement label end_condition inside is-new next e =
-      agree-conditions (after_end above.conditions) _ Blank _ (λ here is. ap Some (same-Ok _ here is))
-      (λ conditions is. open-end above.conditions conditions nest is) next e
+      agree-conditions _ _ _ _ (λ here is. ap Some (same-Ok _ here is)) (λ conditions is. open-end above.conditions conditions nest is) _ e
   agree-statement label (space size fill) inside is-new next e = grind (arith, agree-item, counted-ok, fills-item, value-extends)
-  agree-statement label (bytes parts) inside is-new next e = grind (arith, agree-item, fills-item)
-  agree-statement label (words numbers) inside is-new next e = grind (arith, agree-item, fills-item)
-  agree-statement label (operation written) inside is-new next e = grind (arith, agree-item, fills-item)
+  agree-statement label statement inside is-new next e = grind (arith, agree-item, fills-item)
 
   agree-if : (line : List ℕ) (b : Bool) → is_judged above.conditions (conditional_of_line line) ≡ b → (next : Standing)
       → (if b then after_judged above line else after_passed above (conditional_of_line line)) ≡ Ok next
       → Agrees above (step_if names (spot_of above) line b) (FillsLine names (spot_of above) line b) next
-  agree-if line true judged next e =
-      let (form, is, formed) = gone (form_of_line line) (after_form above) next e in
+  agree-if line true judged next e = let (form, is, formed) = gone (form_of_line line) _ _ e in
       let (is-new, goes) = if-ok (is_new above.symbols form.label) _ _ next formed in
       let inside : is_if form.statement ≡ true → counts (opens above.conditions) ≡ true =
       grind (arith, counts-if, opens, read-same, word-of-if) in
       let a = agree-statement form.label form.statement inside is-new next goes in grind (arith, line-reads)
   agree-if line false is next e =
-      let out = counts-none (opens above.conditions) (conditional_of_line line)
-      (sym (read-same above.conditions (conditional_of_line line) nest) ∙ is) in
+      let out = counts-none (opens above.conditions) _ (sym (read-same above.conditions (conditional_of_line line) nest) ∙ is) in
       agree-conditions (after_skipped (conditional_of_line line) above.conditions) _ Skipped _ (λ here shown. ap Some (same-Ok _ here shown))
       (λ conditions is. open-skipped (conditional_of_line line) above.conditions conditions nest out is) next e
 
@@ -178,5 +163,4 @@ module _ (names : List ℕ → Option ℤ) (above : Standing) (extends : Extends
   unfolding after_text step_of entry_of
   agree-text line next e =
       let judged = is_judged above.conditions (conditional_of_line line) in
-      let same = read-same above.conditions (conditional_of_line line) nest in
       let a = agree-if line judged refl next e in search rules

@@ -23,8 +23,7 @@ no-line number above end e = same-Ok above end e
 pub grows : (number : ℕ) (above : Standing) → AreNested above.conditions → (lines : List (List ℕ)) (end : Standing)
     → phase1 number above lines ≡ Ok end → (more : List Symbol) × (end.symbols ≡ above.symbols ++ more)
 grows number above nest [] end e = ([], cc (no-line number above end e, append-nil above.symbols))
-grows number above nest (line ∷ below) end e =
-    let (next, after, others) = first-line number above line below end e in
+grows number above nest (line ∷ below) end e = let (next, after, others) = first-line _ _ _ below end e in
     let a = agree-text (number_of_symbol above.symbols) above (λ some z h. h) nest line next after in
     let (more, is) = grows (number + 1) next a.nested below end others in
     (a.new ++ more, is ∙ ap (λ xs. xs ++ more) a.grown ∙ append_assoc above.symbols a.new more)
@@ -33,8 +32,7 @@ grows number above nest (line ∷ below) end e =
 
 pub extends-above : (number : ℕ) (above : Standing) → AreNested above.conditions → (lines : List (List ℕ)) (end : Standing)
     → phase1 number above lines ≡ Ok end → (names : List ℕ → Option ℤ) → Extends end.symbols names → Extends above.symbols names
-extends-above number above nest lines end e names extends some z is =
-    let (more, grown) = grows number above nest lines end e in
+extends-above number above nest lines end e names extends some z is = let (more, grown) = grows _ _ nest _ _ e in
     extends some z (subst (λ symbols. number_of_symbol symbols some ≡ Some z) (sym grown) (found-first above.symbols more some z is))
 
 defines : (names : List ℕ → Option ℤ) (number : ℕ) (above : Standing) → AreNested above.conditions → (lines : List (List ℕ))
@@ -42,8 +40,7 @@ defines : (names : List ℕ → Option ℤ) (number : ℕ) (above : Standing) �
     → (more : List Symbol) × (defined_in names (spot_of above) lines ≡ Some more) × (end.symbols ≡ above.symbols ++ more)
 unfolding defined_in
 defines names number above nest [] end e extends = grind (arith, append-nil, no-line)
-defines names number above nest (line ∷ below) end e extends =
-    let (next, after, others) = first-line number above line below end e in
+defines names number above nest (line ∷ below) end e extends = let (next, after, others) = first-line _ _ _ _ _ e in
     let a = agree-text names above (extends-above number above nest (line ∷ below) end e names extends) nest line next after in
     let d = defines names (number + 1) next a.nested below end others extends in grind (arith, common_steps)
 
@@ -60,11 +57,9 @@ agree-all : (names : List ℕ → Option ℤ) (number : ℕ) (above : Standing) 
     → (some : List ℕ) → names some ≡ number_of_symbol end.symbols some
 unfolding defined_in
 agree-all names number above nest [] end rest e d assigned some = grind (arith, append-nil, no-line, same_Some)
-agree-all names number above nest (line ∷ below) end rest e d assigned some =
-    let (next, after, others) = first-line number above line below end e in
+agree-all names number above nest (line ∷ below) end rest e d assigned some = let (next, after, others) = first-line _ _ _ _ _ e in
     let a = agree-text names above (λ n z h. assigned n ∙ found-first above.symbols rest n z h) nest line next after in
-    let (more, defined, parts) = mapped a.new rest (defined_in names (spot_of next) below)
-    (sym (ap (λ step. defined_after step (λ next. defined_in names next below)) a.stepped) ∙ d) in
+    let (more, defined, parts) = mapped _ _ _ (sym (ap (λ step. defined_after step (λ next. defined_in names next below)) a.stepped) ∙ d) in
     let same : above.symbols ++ rest ≡ next.symbols ++ more = cc (parts, append_assoc above.symbols a.new more, a.grown) in
     agree-all names (number + 1) next a.nested below end more others defined
     (λ n. assigned n ∙ ap (λ symbols. number_of_symbol symbols n) same) some
@@ -74,8 +69,7 @@ pub start-spot : first_spot ≡ spot_of first_standing
 start-spot = refl
 
 pub symbols-are-right : SymbolsAreRight
-symbols-are-right lines after e =
-    let d = defines (number_of_symbol after.symbols) 1 first_standing none-nested lines after e (λ some z h. h) in
+symbols-are-right lines after e = let d = defines _ _ _ none-nested _ _ e (λ some z h. h) in
     record {
       right = grind (arith, start-spot);
       only = grind (arith, agree-all, none-nested, start-spot);

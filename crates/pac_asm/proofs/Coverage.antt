@@ -51,9 +51,7 @@ with_span places span n old was inside =
     let block : List Bool = replicate span.size true in
     let size : length block ≡ span.size = length-replicate span.size true in
     ap (λ (k : ℕ). take span.at old ++ (block ++ drop (span.at + k) old)) (sym size)
-    ∙ written (is_taken places) (is_taken (places ++ Placed span ∷ [])) old block span.at n false was (omega (arith, size))
-    (λ k below.
-    let within : k < span.size = omega (arith, size) in
+    ∙ written _ _ _ _ _ _ _ was (omega (arith, size)) (λ k below. let within : k < span.size = omega (arith, size) in
     get_or-replicate span.size k true false within
     ∙ sym (more places (Placed span) (span.at + k) ∙ or_right (is_taken places (span.at + k)) _ (covered span k within)))
     (λ k below where_is.

@@ -1,7 +1,6 @@
 -- The second phase gives each line the entry that it has under the symbols.
 use Rattle.std.proofs.lemmas.Grind.{common_steps}
-use Rattle.std.proofs.Common.{◌≡◌, ℕ, ◌+◌, List, [], ◌∷◌, ◌++◌, Some, Ok, option_map, refl, ap, sym, ◌∙◌, append_assoc, append-nil, arith}
-use Rattle.std.proofs.Common.{rules}
+use Rattle.std.proofs.Common.{◌≡◌, ℕ, ◌+◌, List, [], ◌∷◌, ◌++◌, Some, Ok, ap, sym, ◌∙◌, arith, rules}
 use Rattle.pac_lemmas.proofs.Options.{same-Ok}
 use Rattle.pac_asm_program.specs.Names.{Symbol, number_of_symbol}
 use Rattle.pac_asm_program.specs.declared.line.Line.{Line}
@@ -9,8 +8,8 @@ use Rattle.pac_asm.specs.declared.place.LineLayout.{LineLayout}
 use Rattle.pac_asm.specs.Standings.{Standing, first_standing}
 use Rattle.pac_asm.specs.Phase1.{phase1}
 use Rattle.pac_asm.specs.Phase2.{line_at_place, phase2}
-use Rattle.pac_asm.specs.Assignments.{step_of, first_spot}
-use Rattle.pac_asm.specs.Entries.{entry_before, entries_after, entries_in}
+use Rattle.pac_asm.specs.Assignments.{first_spot}
+use Rattle.pac_asm.specs.Entries.{entries_in}
 use Rattle.pac_asm.proofs.OpenIfs.{AreNested, none-nested}
 use Rattle.pac_asm.proofs.InTurn.{in-line-ok, first-line}
 use Rattle.pac_asm.proofs.Values.{Extends}
@@ -31,37 +30,17 @@ record Entered (symbols : List Symbol) (above : Standing) (lines : List (List �
 entered : (symbols : List Symbol) (number : ℕ) (above : Standing) → AreNested above.conditions → (lines : List (List ℕ))
     (end : Standing) → phase1 number above lines ≡ Ok end → Extends end.symbols (number_of_symbol symbols) → Entered symbols above lines end
 unfolding entries_in phase2
-entered symbols number above nest [] end e extends = record {
-  places = [];
-  are = ap (λ (standing : Standing). standing.places) (sym (no-line number above end e)) ∙ sym (append-nil above.places);
-  filled = λ n before out e. ([], sym (same-Ok before out e) ∙ sym (append-nil before), refl);
-}
+entered symbols number above nest [] end e extends = search (rules, arith, no-line, same-Ok)
 entered symbols number above nest (line ∷ below) end e extends =
     let names = number_of_symbol symbols in
     let (next, after, others) = first-line number above line below end e in
     let a = agree-text names above (extends-above number above nest (line ∷ below) end e names extends) nest line next after in
     let rest = entered symbols (number + 1) next a.nested below end others extends in
-    record {
-      places = a.place ∷ rest.places;
-      are = grind (arith, common_steps);
-      filled = λ n before out e.
-          let first = in-line-ok n (line_at_place symbols line a.place) _ out e in
-          let r = rest.filled (n + 1) (before ++ first.0 ∷ []) out first.2 in
-          let entry = a.fills first.0 (sym (line-is symbols line a.place) ∙ first.1) in (
-            first.0 ∷ r.0,
-            r.1 ∙ append_assoc before (first.0 ∷ []) r.0,
-            ap (λ entry. entry_before entry
-                (entries_after (step_of names (spot_of above) line) (λ next. entries_in names next below))) entry
-                ∙ ap (λ step. option_map (λ entries. first.0 ∷ entries) (entries_after step (λ next. entries_in names next below)))
-                a.stepped
-                ∙ ap (option_map (λ entries. first.0 ∷ entries)) r.2,
-          );
-    }
+    grind (arith, common_steps, in-line-ok, line-is, spot_of)
 
 -- the lines that both phases leave are the entries of the source's lines under the symbols
 pub has-entries : (lines : List (List ℕ)) (after : Standing) (out : List Line) → phase1 1 first_standing lines ≡ Ok after
     → phase2 after.symbols 1 [] lines after.places ≡ Ok out → entries_in (number_of_symbol after.symbols) first_spot lines ≡ Some out
-has-entries lines after out e f =
-    let all = entered after.symbols 1 first_standing none-nested lines after e (λ some z h. h) in
+has-entries lines after out e f = let all = entered _ _ _ none-nested _ _ e (λ some z h. h) in
     let made = all.filled 1 [] out (ap (phase2 after.symbols 1 [] lines) (sym all.are) ∙ f) in
     ap (λ spot. entries_in (number_of_symbol after.symbols) spot lines) start-spot ∙ made.2 ∙ ap Some (sym made.1)

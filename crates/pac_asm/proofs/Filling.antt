@@ -1,6 +1,6 @@
 -- The second phase line by line.
 use Rattle.std.proofs.Common.{◌≡◌, ℕ, zero, suc, ◌+◌, ◌<◌, ◌≤◌, Bool, true, false, List, [], ◌∷◌, ◌++◌, ◌||◌, Option, Some, None, Ok, Err}
-use Rattle.std.proofs.Common.{length, get_or, append-nil, refl, sym, ◌∙◌, subst, arith, leb, ltb, ℤ, ◌⊎◌, inl, inr, rules}
+use Rattle.std.proofs.Common.{length, get_or, refl, sym, ◌∙◌, subst, arith, leb, ltb, ℤ, ◌⊎◌, inl, inr, rules}
 use Rattle.std.specs.List.{list_any, flat_map, All}
 use Rattle.std.specs.Str.Lines.{lines}
 use Rattle.std.proofs.lemmas.Bool.{or_left, or_right, and_parts, leb-true, ltb-true, cases_Bool, both_ways}
@@ -101,13 +101,8 @@ laid-as filled items e apart fit =
     record { apart = subst rom_laws.AreApart (sym e) apart; fit = subst (All IsFit) (sym e) fit }
 
 laid-push : (filled : List Line) (here : Line) → IsFreeLine filled here → AreLaid filled → AreLaid (filled ++ here ∷ [])
-laid-push filled line.Blank free laid =
-    laid-as (filled ++ line.Blank ∷ []) (flat_map items_in filled) (items-more filled line.Blank ∙ append-nil (flat_map items_in filled))
-    laid.apart laid.fit
-laid-push filled line.Skipped free laid =
-    laid-as (filled ++ line.Skipped ∷ []) (flat_map items_in filled)
-    (items-more filled line.Skipped ∙ append-nil (flat_map items_in filled))
-    laid.apart laid.fit
+laid-push filled line.Blank free laid = search (rules, arith, items-more, laid-as)
+laid-push filled line.Skipped free laid = search (rules, arith, items-more, laid-as)
 laid-push filled (line.Placed item) free laid =
     laid-as (filled ++ line.Placed item ∷ []) (flat_map items_in filled ++ item ∷ []) (items-more filled (line.Placed item))
     (apart-push (flat_map items_in filled) item laid.apart (free-apart (flat_map items_in filled) item free))

@@ -1,5 +1,5 @@
 -- The first word of a line whose form is an IF.
-use Rattle.std.proofs.Common.{◌≡◌, ℕ, Bool, true, false, not, List, ◌∷◌, ◌++◌, length, Option, Some, None, Result, Ok, rules, Err, arith}
+use Rattle.std.proofs.Common.{◌≡◌, ℕ, Bool, true, false, not, List, ◌∷◌, ◌++◌, Option, Some, None, Result, Ok, rules, Err, arith}
 use Rattle.std.proofs.Common.{refl, ap, sym, subst, ◌∙◌, is_some, if◌then◌else◌}
 use Rattle.std.proofs.lemmas.List.{take_at}
 use Rattle.std.specs.Option.{ok_or}
@@ -7,7 +7,7 @@ use Rattle.std.specs.Result.{result_map_both}
 use Rattle.pac_lex.specs.declared.token.TokenKind.{TokenKind}
 use Rattle.pac_lex.specs.declared.token.TokenKind.TheVariants as kinds
 use Rattle.pac_lex.specs.declared.fault.LexFault.{LexFault}
-use Rattle.pac_lex.specs.Bytes.{is_name_byte, after_gap}
+use Rattle.pac_lex.specs.Bytes.{after_gap}
 use Rattle.pac_lex.specs.Tokens.{Lexeme, IsToken}
 use Rattle.pac_lex.specs.Words.{first_word}
 use Rattle.pac_lex.specs.Scan.{tokens_of}
@@ -30,14 +30,12 @@ use Rattle.pac_asm.specs.declared.fault.AsmCode.TheVariants.{Token, Syntax}
 
 -- a name after the blanks of a line is the line's first word
 named-first : (line text rest : List ℕ) → after_gap line ≡ text ++ rest → IsToken kinds.Name text rest → text ≡ first_word line
-named-first line text rest parts (start, all, stop, af) =
-    sym (rw (parts, prefix-of-all is_name_byte text rest all stop, take_at text rest (length text) refl) refl)
+named-first line text rest parts (start, all, stop, af) = grind (arith, prefix-of-all, take_at)
 
 -- the first token of a line, where it is a name, is the line's first word
 first-is-word : (line : List ℕ) (t : Lexeme) (ts : List Lexeme) → tokens_of line ≡ Ok (t ∷ ts) → t.kind ≡ kinds.Name
     → t.text ≡ first_word line
-first-is-word line t ts e named =
-    let (rest, first, more) = (tokens-read line (t ∷ ts) e).1 in
+first-is-word line t ts e named = let (rest, first, more) = (tokens-read _ _ e).1 in
     named-first line t.text rest first.parts (subst (λ (kind : TokenKind). IsToken kind t.text rest) named first.is_token)
 
 -- ---- the form of an IF
@@ -91,8 +89,7 @@ formed-is o form e = search rules
 line-by : (line : List ℕ) (answer : Result (List Lexeme) LexFault) (form : Form) → tokens_of line ≡ answer
     → (result_map_both (λ tokens. tokens) Token answer >>= λ tokens. ok_or (form_of tokens) Syntax) ≡ Ok form
     → is_if form.statement ≡ true → conditional_of_line line ≡ Some If
-line-by line (Ok tokens) form is e h =
-    let begun = begins-if tokens form (formed-is (form_of tokens) form e) h in
+line-by line (Ok tokens) form is e h = let begun = begins-if tokens form (formed-is _ _ e) h in
     let word = first-is-word line begun.first begun.more (is ∙ ap (λ (xs : List Lexeme). Ok xs) begun.are) begun.named in
     ap conditional_of_directive (ap directive_of (sym word) ∙ begun.word)
 line-by line (Err fault) form is e h = absurd cc

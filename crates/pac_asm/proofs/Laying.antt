@@ -1,6 +1,6 @@
 -- The first phase line by line.
 use Rattle.std.proofs.Common.{◌≡◌, ℕ, ◌+◌, Bool, false, List, [], ◌∷◌, Option, Some, Result, Ok, Err, option_map, length, rules}
-use Rattle.std.proofs.Common.{refl, ap, sym, ◌∙◌, arith, cond}
+use Rattle.std.proofs.Common.{ap, sym, ◌∙◌, arith, cond}
 use Rattle.std.specs.Str.Lines.{lines}
 use Rattle.pac_asm.specs.declared.fault.AsmFault.{AsmFault}
 use Rattle.pac_asm.specs.declared.fault.AsmError.{AsmError}
@@ -11,7 +11,7 @@ use Rattle.pac_asm.specs.Unclosed.{conditional_of_line, is_never_closed}
 use Rattle.pac_asm.specs.UnclosedProofs.{first_unclosed}
 use Rattle.pac_asm.specs.Standings.{Standing}
 use Rattle.pac_asm.specs.Phase1.{after_text, after_line, unless_left_open, phase1}
-use Rattle.pac_asm.proofs.Pairs.{shifted, shifted-none}
+use Rattle.pac_asm.proofs.Pairs.{shifted}
 
 -- what is known after some lines: the line after them stands below so many
 pub record Laid (first : Standing) (source rest : List ℕ) (unclosed : Option ℕ) (above : ℕ) (standing : Standing) : Type 0 where
@@ -21,8 +21,7 @@ pub record Laid (first : Standing) (source rest : List ℕ) (unclosed : Option �
 
 pub begins : (first : Standing) (source : List ℕ) (unclosed : Option ℕ) → unclosed ≡ first_unclosed (lines source) →
     Laid first source source unclosed 0 first
-begins first source unclosed e =
-    record { same = refl; counted = omega arith; pairs = e ∙ sym (shifted-none (first_unclosed (lines source))) }
+begins first source unclosed e = search rules
 
 -- ---- whether the next line is an IF that is never closed
 
@@ -80,5 +79,4 @@ module _ (first : Standing) (source rest line below : List ℕ) (unclosed : Opti
 pub finished : (first : Standing) (source rest : List ℕ) (unclosed : Option ℕ) (above : ℕ) (standing : Standing) → rest ≡ []
     → Laid first source rest unclosed above standing → phase1 1 first (lines source) ≡ Ok standing
 unfolding phase1
-finished first source rest unclosed above standing none was =
-    sym was.same ∙ ap (λ (text : List ℕ). phase1 (above + 1) standing (lines text)) none
+finished first source rest unclosed above standing none was = search rules

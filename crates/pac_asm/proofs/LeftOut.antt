@@ -60,8 +60,7 @@ own-place above after line place added is skipped =
 reach : (number : ℕ) (old new : Standing) (texts below : List (List ℕ)) (line : List ℕ)
     → phase1 number old (texts ++ line ∷ below) ≡ Ok new → Reached old new texts line below
 unfolding phase1 after_texts
-reach number old new [] below line e =
-    let (after, taken, others) = first-line number old line below new e in
+reach number old new [] below line e = let (after, taken, others) = first-line _ _ _ _ _ e in
     let one = text old line after taken in
     let rest = laid (number + 1) after below new others in
     record {
@@ -77,8 +76,7 @@ reach number old new [] below line e =
       others = all-texts (number + 1) after new below others;
       skipped = own-place old after line one.place one.added taken;
     }
-reach number old new (first ∷ texts) below line e =
-    let (next, taken, others) = first-line number old first (texts ++ line ∷ below) new e in
+reach number old new (first ∷ texts) below line e = let (next, taken, others) = first-line _ _ _ _ _ e in
     let one = text old first next taken in
     let rest = reach (number + 1) next new texts below line others in
     record {
@@ -113,8 +111,7 @@ entry : (symbols : List Symbol) (number : ℕ) (filled : List Line) (texts below
     (out : List Line) → AllFit texts before → phase2 symbols number filled (texts ++ line ∷ below) (before ++ Skipped ∷ more) ≡ Ok out
     → slice_get out (length filled + length texts) ≡ Some entries.Skipped
 unfolding phase2
-entry symbols number filled [] below line [] more out fit e =
-    let (rest, grown) = grows symbols (number + 1) (filled ++ entries.Skipped ∷ []) below more out e in
+entry symbols number filled [] below line [] more out fit e = let (rest, grown) = grows _ _ _ _ more _ e in
     let at : length filled + 0 ≡ length filled = omega arith in
     cc (at, grown, append_assoc filled (entries.Skipped ∷ []) rest, slice_get-after filled entries.Skipped rest)
 entry symbols number filled (top ∷ texts) below line (place ∷ before) more out fit e =
@@ -151,10 +148,9 @@ left-out texts below line program new filled first second made =
       shown = λ skipped.
           let places : new.places ≡ r.before ++ Skipped ∷ r.more =
           r.places ∙ ap (λ (place : LineLayout). r.before ++ place ∷ r.more) (r.skipped skipped) in
-          let at : length texts ≡ length {A = Line} [] + length texts = omega (arith) in
+          let at : length texts ≡ length {A = Line} [] + length texts = omega arith in
           ap (λ (lines : List Line). slice_get lines (length texts)) (sym made.lines) ∙ ap (slice_get filled) at
-          ∙ entry new.symbols 1 [] texts below line r.before r.more filled r.fit
-          (ap (phase2 new.symbols 1 [] (texts ++ line ∷ below)) (sym places) ∙ second);
+          ∙ entry _ _ _ _ _ _ _ _ _ r.fit (ap (phase2 new.symbols 1 [] (texts ++ line ∷ below)) (sym places) ∙ second);
     }
 
 by-lines : (all texts below : List (List ℕ)) (line : List ℕ) (program : Assembled) → all ≡ texts ++ line ∷ below

@@ -90,19 +90,15 @@ above-after p word = search rules
 pub kept : (source rest line below : List ℕ) (p q : Pairing) (word : Option Conditional) → q ≡ pairing_after_word p word →
     word ≡ conditional_of_line line
     → lines rest ≡ line ∷ lines below → Kept source rest p → Kept source below q
-kept source rest line below p q word is w e was =
-    let above : q.above ≡ p.above + 1 = ap (λ (r : Pairing). r.above) is ∙ above-after p word in
+kept source rest line below p q word is w e was = let above : q.above ≡ p.above + 1 = ap (λ (r : Pairing). r.above) is ∙ above-after _ _ in
     let depth : q.depth ≡ (pairing_after_word p word).depth = ap (λ (r : Pairing). r.depth) is in
-    record {
-      counted = omega (arith, was.counted, ap length e);
-      within = omega (arith, within-after p word was.within);
-      same =
-          ap (λ (r : Pairing). found-after r (lines below)) (is ∙ ap (pairing_after_word p) w)
-          ∙ step p.depth p.outermost p.above (conditional_of_line line) (lines below)
-          ∙ before-is p.depth p.outermost p.above line (lines below)
-          ∙ ap (found p.depth p.outermost p.above) (sym e)
-          ∙ was.same;
-    }
+    let same_is =
+    ap (λ (r : Pairing). found-after r (lines below)) (is ∙ ap (pairing_after_word p) w)
+    ∙ step p.depth p.outermost p.above (conditional_of_line line) (lines below)
+    ∙ before-is p.depth p.outermost p.above line (lines below)
+    ∙ ap (found p.depth p.outermost p.above) (sym e)
+    ∙ was.same in
+    grind (arith, before-is, step, within-after)
 
 pub begins : (source : List ℕ) → Kept source source (record { above = 0; depth = 0; outermost = 0 })
 begins source = record { counted = omega arith; within = omega arith; same = shifted-none (first_unclosed (lines source)) }

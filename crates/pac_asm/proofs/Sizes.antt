@@ -1,7 +1,6 @@
 -- The first phase gives each line a place that fits it.
 use Rattle.std.proofs.lemmas.Grind.{common_steps}
-use Rattle.std.proofs.Common.{◌≡◌, ℕ, ◌+◌, Bool, List, [], ◌∷◌, ◌++◌, Option, Ok, sym, subst, arith, rules, true, false, if◌then◌else◌}
-use Rattle.pac_asm_line.specs.declared.conditional.Conditional.{Conditional}
+use Rattle.std.proofs.Common.{◌≡◌, ℕ, ◌+◌, Bool, List, [], ◌∷◌, ◌++◌, Option, Ok, sym, subst, arith, rules, if◌then◌else◌}
 use Rattle.pac_asm_line.specs.Statements.{Form}
 use Rattle.pac_asm.specs.declared.place.LineLayout.{LineLayout}
 use Rattle.pac_asm.specs.Conditions.{is_judged}
@@ -25,14 +24,9 @@ item old label size line form is fit new e = search rules
 judged : (old : Standing) (line : List ℕ) (new : Standing) → after_judged old line ≡ Ok new → Adds old new line
 judged old line new e = search rules
 
-passed : (old : Standing) (line : List ℕ) (word : Option Conditional) (new : Standing) → after_passed old word ≡ Ok new
-    → Adds old new line
-passed old line word new e = search rules
-
 by-test : (b : Bool) (old : Standing) (line : List ℕ) (new : Standing)
     → (if b then after_judged old line else after_passed old (conditional_of_line line)) ≡ Ok new → Adds old new line
-by-test true old line new e = judged old line new e
-by-test false old line new e = passed old line (conditional_of_line line) new e
+by-test b old line new e = search rules
 
 pub text : (old : Standing) (line : List ℕ) (new : Standing) → after_text old line ≡ Ok new → Adds old new line
 unfolding after_text
@@ -47,13 +41,11 @@ pub record Lays (old new : Standing) (lines : List (List ℕ)) : Type 0 where
 pub laid : (number : ℕ) (old : Standing) (lines : List (List ℕ)) (new : Standing) → phase1 number old lines ≡ Ok new → Lays old new lines
 unfolding phase1
 laid number old [] new e = search rules
-laid number old (line ∷ below) new e =
-    let (after, taken, others) = first-line number old line below new e in
+laid number old (line ∷ below) new e = let (after, taken, others) = first-line _ _ _ _ _ e in
     let one = text old line after taken in
     let more = laid (number + 1) after below new others in
     record { places = one.place ∷ more.places; added = grind (arith, common_steps); fit = (one.fit, more.fit) }
 
 pub all-fit : (lines : List (List ℕ)) (new : Standing) → phase1 1 first_standing lines ≡ Ok new → AllFit lines new.places
-all-fit lines new e =
-    let all = laid 1 first_standing lines new e in
+all-fit lines new e = let all = laid _ _ _ _ e in
     subst (AllFit lines) (sym all.added) all.fit

@@ -60,8 +60,7 @@ are-same a b [] above spot some other h da db na nb = sym (same_Some [] some da)
 are-same a b (line ∷ below) above spot some other h da db na nb =
     let same = same-step above a b (λ name z e. na name ∙ found-first above some name z e)
     (λ name z e. nb name ∙ found-first above other name z e) spot line h.0 in
-    same-after a b above below (are-same a b below) (step_of a spot line) some other h.1 da
-    (ap (λ step. defined_after step (λ next. defined_in b next below)) same ∙ db) na nb
+    same-after _ _ _ _ (are-same a b below) _ _ _ h.1 da (ap (λ step. defined_after step (λ next. defined_in b next below)) same ∙ db) na nb
 
 pub at-most-one-is-right : AtMostOneIsRight
 at-most-one-is-right lines names other right also above name = grind (arith, are-same)

@@ -1,8 +1,7 @@
 -- Names that stand for the same number in two assignments, and the values that they give.
+use Rattle.std.proofs.Common.{arith}
 use Rattle.std.proofs.Common.{◌≡◌, ℕ, ℤ, Bool, List, [], ◌∷◌, ◌++◌, Option, Some, Ok, refl, ap, sym, ◌∙◌, inl, inr, rules, if◌then◌else◌}
-use Rattle.std.specs.Str.{bytes_eq}
 use Rattle.std.proofs.lemmas.Option.{none-some}
-use Rattle.pac_expr.specs.declared.evaluation.ValueError.TheVariants.{Undefined}
 use Rattle.pac_expr.specs.Trees.{Tree, atom, group, signed, joined}
 use Rattle.pac_expr.specs.Trees as trees
 use Rattle.pac_expr.specs.Values.{sign_value, joined_value, tree_value}
@@ -22,8 +21,7 @@ found-by b z first more v h e = search rules
 -- what stands in the first of two lists stands in both
 pub found-first : (xs ys : List Symbol) → Extends xs (number_of_symbol (xs ++ ys))
 found-first [] ys some v e = absurd (none-some v e)
-found-first (x ∷ xs) ys some v e =
-    found-by (bytes_eq some x.0) x.1 (number_of_symbol xs some) (number_of_symbol (xs ++ ys) some) v (found-first xs ys some v) e
+found-first (x ∷ xs) ys some v e = grind (arith, found-by, found-first xs ys some v)
 
 -- an expression of known names has the value, or the fault, that they give it
 known-value : (above : List Symbol) (names : List ℕ → Option ℤ) → Extends above names → (at : ℕ) (tree : Tree) → NamesStand above tree
@@ -44,5 +42,4 @@ same-value above a b ea eb at tree h = known-value above a ea at tree h ∙ sym 
 -- an expression that has a value keeps it
 pub value-extends : (above : List Symbol) (names : List ℕ → Option ℤ) → Extends above names → (at : ℕ) (tree : Tree) (z : ℤ)
     → tree_value (number_of_symbol above) at tree ≡ Ok z → tree_value names at tree ≡ Ok z
-value-extends above names extends at tree z e =
-    known-value above names extends at tree (λ u. Err-is-no-Ok Undefined z (sym (told (number_of_symbol above) at tree u) ∙ e)) ∙ e
+value-extends above names extends at tree z e = grind (arith, Err-is-no-Ok, known-value, told)

@@ -1,9 +1,9 @@
-use Rattle.std.proofs.Common.{◌≡◌, List, [], Some, Ok, Err, Result, IfOk, sym, subst, arith, rules}
+use Rattle.std.proofs.Common.{◌≡◌, List, [], Some, Ok, Result, IfOk, sym, subst, arith, rules}
 use Rattle.std.specs.Str.Lines.{lines}
 use Rattle.pac_asm_program.specs.Names.{Symbol, number_of_symbol}
 use Rattle.pac_asm_program.specs.Programs.{Assembled}
-use Rattle.pac_asm.specs.Assignments.{first_spot, OneIsRight}
-use Rattle.pac_asm.specs.Entries.{entries_in, HasEntriesOf}
+use Rattle.pac_asm.specs.Assignments.{first_spot}
+use Rattle.pac_asm.specs.Entries.{entries_in}
 use Rattle.pac_asm.specs.Errors.{AssemblyGives}
 use Rattle.pac_asm.specs.Phase2.{phase2}
 use Rattle.pac_asm.specs.declared.fault.AsmError.{AsmError}
@@ -14,18 +14,13 @@ use Rattle.pac_asm.proofs.assembly.assemble.Goals as goal
 
 given : (result : Result Assembled AsmError) (program : Assembled) (P : Assembled → Type 0) → AssemblyGives result (Ok program)
     → P program → IfOk result P
-given (Ok made) program P e h = let is : program ≡ made = cc in subst P is h
-given (Err error) program P e h = tt
+given result program P e h = search rules
 
 pub fill_in-requires-clause-fit : goal.fill_in-requires-clause-fit
 fill_in-requires-clause-fit c = grind (arith, all-fit)
 
 pub returns-clause-right : goal.returns-clause-right
-returns-clause-right c =
-    let texts = lines c.args.source.now in
-    given c.with_rom.result _ (λ program. OneIsRight texts program.symbols) c.with_rom.ensures.exact
-    (subst (λ (symbols : List Symbol). OneIsRight texts symbols) (sym c.into_symbols.ensures)
-    (symbols-are-right texts c.in_ok-standing.standing c.in_ok-standing.ensures))
+returns-clause-right c = grind (arith, given, symbols-are-right)
 
 pub returns-clause-entries : goal.returns-clause-entries
 returns-clause-entries c =
@@ -33,7 +28,6 @@ returns-clause-entries c =
     let after = c.in_ok-standing.standing in
     let filled = c.in_ok-lines.lines.items in
     let second : phase2 after.symbols 1 [] texts after.places ≡ Ok filled = search rules in
-    given c.with_rom.result _ (HasEntriesOf texts) c.with_rom.ensures.exact
-    (subst (λ (symbols : List Symbol). entries_in (number_of_symbol symbols) first_spot texts ≡ Some filled)
-    (sym c.into_symbols.ensures)
+    given _ _ _ c.with_rom.ensures.exact
+    (subst (λ (symbols : List Symbol). entries_in (number_of_symbol symbols) first_spot texts ≡ Some filled) (sym c.into_symbols.ensures)
     (has-entries texts after filled c.in_ok-standing.ensures second))

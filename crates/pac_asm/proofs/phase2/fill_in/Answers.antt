@@ -17,10 +17,8 @@ pub returns-in-Err-clause-exact : goal.returns-in-Err-clause-exact
 returns-in-Err-clause-exact c =
     subst (λ (error : AsmError). AssemblyFails error (spec.phase2 c.args.symbols.now 1 [] (lines c.args.source.now) c.args.places.now))
     (sym c.in_line.ensures)
-    (ends c.args.source.now c.loop-line.rest.now c.in-Some.line.now c.in-Some.below.now c.args.symbols.now c.args.places.now
-    c.loop-line.left.now c.in-Some-first_place.others.now c.in-Some-first_place.place c.loop-line.number c.loop-line.filled.items
-    c.in-Some.ensures.some c.in-Some-first_place.ensures c.loop-line.invariant
-    c.in-Err.error c.in-Err.ensures.exact)
+    (ends _ _ _ c.in-Some.below.now _ _ _ _ _ _ _ c.in-Some.ensures.some c.in-Some-first_place.ensures c.loop-line.invariant
+    _ c.in-Err.ensures.exact)
 
 pub loop-line-preserved : goal.loop-line-preserved
 loop-line-preserved c = grind (arith, onward)
@@ -30,8 +28,7 @@ returns-clause-exact c =
     elim c.match-first_line.branch [
       | in-Some+in_default-first_place w ↦ grind (arith, finished)
       | in_default w ↦
-          finished c.args.source.now c.loop-line.rest.now c.args.symbols.now c.args.places.now c.loop-line.left.now c.loop-line.number
-          c.loop-line.filled.items (inl w.in_default.ensures.none) c.loop-line.invariant
+          finished _ _ _ _ _ _ _ (inl w.in_default.ensures.none) c.loop-line.invariant
     ]
 
 pub returns-clause-items : goal.returns-clause-items

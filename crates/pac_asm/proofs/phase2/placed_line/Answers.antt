@@ -10,5 +10,4 @@ pub line_of-requires : goal.line_of-requires
 line_of-requires c =
     let formed : form_of (views c.in_ok-tokens.tokens.items) ≡ Some (seen_form c.in-Some.form) =
     ap (λ (tokens : List Token). form_of (views tokens)) (sym c.deref.ensures.value) ∙ sym c.in-Some.ensures in
-    fits-form c.args.line.now c.args.span (views c.in_ok-tokens.tokens.items) (seen_form c.in-Some.form)
-    c.in_ok-tokens.ensures.exact formed c.requires
+    fits-form _ c.args.span _ _ c.in_ok-tokens.ensures.exact formed c.requires
