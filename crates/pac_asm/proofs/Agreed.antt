@@ -1,31 +1,14 @@
 -- What the first phase makes of a line is the step that the line takes under an assignment.
-use Rattle.std.proofs.Common.{◌≡◌, ℕ, ℤ, pos, Bool, true, false, List, [], ◌∷◌, ◌++◌, Option, Some, Result, Ok, arith, rules, refl, ap, sym}
-use Rattle.std.proofs.Common.{◌∙◌, length, nat_lt, if◌then◌else◌}
-use Rattle.std.specs.Result.{result_map_both}
+use Rattle.pac_asm.proofs.Common.{AsmCode, Blank, Bool, Content, Form, IfState, Line, LineLayout, LineStep, List, Ok, OpenIf, Option}
+use Rattle.pac_asm.proofs.Common.{OrFault, Placed, Result, Skipped, Some, Span, Spot, Standing, Statement, Symbol, ValueResult, []}
+use Rattle.pac_asm.proofs.Common.{after_item, after_judged, after_passed, after_skipped, after_statement, after_text, ap, arith}
+use Rattle.pac_asm.proofs.Common.{code_of_fault, condition, conditional_of_line, content_of, count_of, counts, end_condition, entry_by}
+use Rattle.pac_asm.proofs.Common.{entry_if, entry_of, equate, false, form_of_line, if◌then◌else◌, is_judged, is_new, label_symbols, length}
+use Rattle.pac_asm.proofs.Common.{line_of, most_open_ifs, nat_lt, nothing, number_of_symbol, origin, otherwise, pos, refl, result_map_both}
+use Rattle.pac_asm.proofs.Common.{room_for, rules, same-Ok, space, step_by, step_if, step_of, sym, tree_value, true, value_above}
+use Rattle.pac_asm.proofs.Common.{with_bytes, with_label, with_open_ifs, within_rom, ℕ, ℤ, ◌++◌, ◌>>=◌, ◌∙◌, ◌∷◌, ◌≡◌}
 use Rattle.std.proofs.lemmas.List.{append-nil}
-use Rattle.pac_lemmas.proofs.Options.{same-Ok}
-use Rattle.pac_expr.specs.Values.{ValueResult, tree_value}
-use Rattle.pac_code.specs.Items.{Content}
-use Rattle.pac_asm_program.specs.Names.{Symbol, number_of_symbol}
-use Rattle.pac_asm_program.specs.declared.line.Line.{Line}
 use Rattle.pac_asm_program.specs.declared.line.Line.TheVariants as entries
-use Rattle.pac_asm_line.specs.Statements.{Statement, nothing, origin, equate, space, condition, otherwise, end_condition, Form}
-use Rattle.pac_asm_line.specs.Contents.{OrFault, content_of}
-use Rattle.pac_asm.specs.declared.condition.IfState.{IfState}
-use Rattle.pac_asm.specs.declared.place.Span.{Span}
-use Rattle.pac_asm.specs.declared.place.LineLayout.{LineLayout}
-use Rattle.pac_asm.specs.declared.place.LineLayout.TheVariants.{Blank, Skipped, Placed}
-use Rattle.pac_asm.specs.declared.fault.AsmCode.{AsmCode}
-use Rattle.pac_asm.specs.Results.{◌>>=◌}
-use Rattle.pac_asm.specs.Conditions.{is_judged, most_open_ifs, after_skipped}
-use Rattle.pac_asm.specs.Counting.{OpenIf, counts}
-use Rattle.pac_asm.specs.Unclosed.{conditional_of_line}
-use Rattle.pac_asm.specs.Standings.{Standing, value_above, within_rom, is_new, with_label, room_for}
-use Rattle.pac_asm.specs.Reading.{form_of_line}
-use Rattle.pac_asm.specs.Phase1.{after_item, after_statement, after_judged, after_passed, after_text}
-use Rattle.pac_asm.specs.Assignments.{Spot, LineStep, label_symbols, with_open_ifs, with_bytes, step_by, step_if, step_of}
-use Rattle.pac_asm.specs.Entries.{count_of, entry_by, entry_if, entry_of}
-use Rattle.pac_asm.specs.Phase2.{line_of, code_of_fault}
 use Rattle.pac_asm.proofs.FirstWords.{is_if, word-of-if}
 use Rattle.pac_asm.proofs.OpenIfs.{opens, AreNested, AreOpen, read-same, counts-if, counts-none, open-else, open-end, open-skipped, open-if}
 use Rattle.pac_asm.proofs.InTurn.{gone, if-ok}

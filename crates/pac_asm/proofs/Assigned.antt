@@ -1,14 +1,8 @@
 -- The symbols of the first phase are the one right assignment.
-use Rattle.std.proofs.lemmas.Grind.{common_steps}
-use Rattle.std.proofs.Common.{◌≡◌, ℕ, ℤ, ◌+◌, List, [], ◌∷◌, ◌++◌, Option, Some, Ok, arith, rules, refl, ap, sym, ◌∙◌, subst, append_assoc}
-use Rattle.std.proofs.Common.{option_map}
-use Rattle.std.proofs.lemmas.Option.{same_Some}
+use Rattle.pac_asm.proofs.Common.{List, Ok, Option, Some, Standing, Symbol, SymbolsAreRight, [], ap, append_assoc, arith, common_steps}
+use Rattle.pac_asm.proofs.Common.{defined_after, defined_in, first_spot, first_standing, number_of_symbol, option_map, phase1, refl, rules}
+use Rattle.pac_asm.proofs.Common.{same-Ok, same_Some, subst, sym, ℕ, ℤ, ◌++◌, ◌+◌, ◌∙◌, ◌∷◌, ◌≡◌}
 use Rattle.std.proofs.lemmas.List.{append-nil}
-use Rattle.pac_lemmas.proofs.Options.{same-Ok}
-use Rattle.pac_asm_program.specs.Names.{Symbol, number_of_symbol}
-use Rattle.pac_asm.specs.Standings.{Standing, first_standing}
-use Rattle.pac_asm.specs.Phase1.{phase1}
-use Rattle.pac_asm.specs.Assignments.{defined_after, defined_in, first_spot, SymbolsAreRight}
 use Rattle.pac_asm.proofs.OpenIfs.{AreNested, none-nested}
 use Rattle.pac_asm.proofs.InTurn.{first-line}
 use Rattle.pac_asm.proofs.Values.{Extends, found-first}

@@ -1,10 +1,8 @@
 -- Lists that have a value for each number below a limit: a part of one, and one with a part written over.
-use Rattle.std.proofs.Common.{◌≡◌, ℕ, ◌+◌, ◌<◌, ◌≤◌, List, ◌++◌, length, map, get_or, take, drop}
-use Rattle.std.proofs.Common.{ap, ◌∙◌, ◌⊎◌, arith, length-append, length-drop}
-use Rattle.std.specs.List.{range_with_len}
-use Rattle.std.proofs.lemmas.Bool.{cases_lt}
-use Rattle.std.proofs.lemmas.List.{get_or_append_left, get_or-append_right, get_or-take, get_or-drop, length-take-le}
-use Rattle.std.proofs.lemmas.List.FromFn.{fill_by_all, get_or-map-range_with_len, length-map-range_with_len}
+use Rattle.pac_asm.proofs.Common.{List, ap, arith, cases_lt, drop, fill_by_all, get_or, get_or-append_right, get_or-drop}
+use Rattle.pac_asm.proofs.Common.{get_or-map-range_with_len, get_or-take, get_or_append_left, length, length-append, length-drop}
+use Rattle.pac_asm.proofs.Common.{length-map-range_with_len, length-take-le, map, range_with_len, take, ℕ, ◌++◌, ◌+◌, ◌<◌, ◌∙◌, ◌≡◌, ◌≤◌}
+use Rattle.pac_asm.proofs.Common.{◌⊎◌}
 
 -- ---- a part written over
 

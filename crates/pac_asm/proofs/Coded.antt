@@ -1,10 +1,6 @@
 -- The text of a code, by its parts.
-use Rattle.std.proofs.Common.{◌≡◌, ◌++◌, Some, None, codes, rules}
-use Rattle.pac_lex.specs.declared.fault.LexFault.{LexFault}
-use Rattle.pac_lex.specs.Codes.{lex_fault_code}
-use Rattle.pac_asm.specs.declared.fault.AsmCode.{AsmCode}
-use Rattle.pac_asm.specs.Codes.{asm_code_text}
-use Rattle.pac_asm.specs.CodesProofs.{fault_of_token, own_code}
+use Rattle.pac_asm.proofs.Common.{AsmCode, LexFault, None, Some, asm_code_text, codes, fault_of_token, lex_fault_code, own_code, rules}
+use Rattle.pac_asm.proofs.Common.{◌++◌, ◌≡◌}
 
 pub own-text : (code : AsmCode) → fault_of_token code ≡ None → asm_code_text code ≡ own_code code
 own-text code e = search rules

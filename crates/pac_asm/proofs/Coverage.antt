@@ -1,19 +1,10 @@
 -- The cells that lines take.
-use Rattle.std.proofs.Common.{◌≡◌, ℕ, ◌+◌, ◌<◌, ◌≤◌, Bool, true, false, List, [], ◌∷◌, ◌++◌, ◌||◌, length, get_or, take, rules}
-use Rattle.std.proofs.Common.{drop, ap, sym, ◌∙◌, subst, ◌⊎◌, inl, inr, ⊎_elim, arith, replicate, append_assoc, append-nil}
-use Rattle.std.specs.List.{list_any}
-use Rattle.std.proofs.lemmas.Bool.{or_right, le-leb, lt-ltb, and_from}
-use Rattle.std.proofs.Math.Bool.{or-false}
-use Rattle.std.proofs.lemmas.List.{length-replicate, get_or-replicate}
-use Rattle.std.proofs.lemmas.List.Folds.{list_any-append}
-use Rattle.std.proofs.lemmas.List.FromFn.{fill_by_all, length-map-range_with_len, get_or-map-range_with_len}
-use Rattle.pac_lemmas.proofs.Searches.{list_any-map}
-use Rattle.pac_lemmas.proofs.Ranges.{part-map-range}
-use Rattle.pac_asm.specs.declared.place.Span.{Span}
-use Rattle.pac_asm.specs.declared.place.LineLayout.{LineLayout}
-use Rattle.pac_asm.specs.declared.place.LineLayout.TheVariants.{Placed}
-use Rattle.pac_asm.specs.Standings.{span_covers, place_covers, is_taken, overlaps}
-use Rattle.pac_asm.specs.Layouts.{IsFreePlace, ArePlacesApart, cells_below}
+use Rattle.pac_asm.proofs.Common.{ArePlacesApart, Bool, IsFreePlace, LineLayout, List, Placed, Span, [], and_from, ap, append-nil}
+use Rattle.pac_asm.proofs.Common.{append_assoc, arith, cells_below, drop, false, fill_by_all, get_or, get_or-map-range_with_len}
+use Rattle.pac_asm.proofs.Common.{get_or-replicate, inl, inr, is_taken, le-leb, length, length-map-range_with_len, length-replicate}
+use Rattle.pac_asm.proofs.Common.{list_any, list_any-append, list_any-map, lt-ltb, or-false, or_right, overlaps, part-map-range}
+use Rattle.pac_asm.proofs.Common.{place_covers, replicate, rules, span_covers, subst, sym, take, true, ℕ, ⊎_elim, ◌++◌, ◌+◌, ◌<◌, ◌||◌, ◌∙◌}
+use Rattle.pac_asm.proofs.Common.{◌∷◌, ◌≡◌, ◌≤◌, ◌⊎◌}
 use Rattle.pac_asm.proofs.Cells.{written}
 
 -- no line takes no cell

@@ -1,15 +1,7 @@
 -- The second phase gives each line the entry that it has under the symbols.
-use Rattle.std.proofs.lemmas.Grind.{common_steps}
-use Rattle.std.proofs.Common.{◌≡◌, ℕ, ◌+◌, List, [], ◌∷◌, ◌++◌, Some, Ok, ap, sym, ◌∙◌, arith, rules}
-use Rattle.pac_lemmas.proofs.Options.{same-Ok}
-use Rattle.pac_asm_program.specs.Names.{Symbol, number_of_symbol}
-use Rattle.pac_asm_program.specs.declared.line.Line.{Line}
-use Rattle.pac_asm.specs.declared.place.LineLayout.{LineLayout}
-use Rattle.pac_asm.specs.Standings.{Standing, first_standing}
-use Rattle.pac_asm.specs.Phase1.{phase1}
-use Rattle.pac_asm.specs.Phase2.{line_at_place, phase2}
-use Rattle.pac_asm.specs.Assignments.{first_spot}
-use Rattle.pac_asm.specs.Entries.{entries_in}
+use Rattle.pac_asm.proofs.Common.{Line, LineLayout, List, Ok, Some, Standing, Symbol, [], ap, arith, common_steps, entries_in, first_spot}
+use Rattle.pac_asm.proofs.Common.{first_standing, line_at_place, number_of_symbol, phase1, phase2, rules, same-Ok, sym, ℕ, ◌++◌, ◌+◌, ◌∙◌}
+use Rattle.pac_asm.proofs.Common.{◌∷◌, ◌≡◌}
 use Rattle.pac_asm.proofs.OpenIfs.{AreNested, none-nested}
 use Rattle.pac_asm.proofs.InTurn.{in-line-ok, first-line}
 use Rattle.pac_asm.proofs.Values.{Extends}

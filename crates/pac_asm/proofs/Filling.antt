@@ -1,37 +1,13 @@
 -- The second phase line by line.
-use Rattle.std.proofs.Common.{◌≡◌, ℕ, zero, suc, ◌+◌, ◌<◌, ◌≤◌, Bool, true, false, List, [], ◌∷◌, ◌++◌, ◌||◌, Option, Some, None, Ok, Err}
-use Rattle.std.proofs.Common.{length, get_or, refl, sym, ◌∙◌, subst, arith, leb, ltb, ℤ, ◌⊎◌, inl, inr, rules}
-use Rattle.std.specs.List.{list_any, flat_map, All}
-use Rattle.std.specs.Str.Lines.{lines}
-use Rattle.std.proofs.lemmas.Bool.{or_left, or_right, and_parts, leb-true, ltb-true, cases_Bool, both_ways}
-use Rattle.std.proofs.lemmas.List.Folds.{list_any-append}
-use Rattle.std.proofs.lemmas.List.Elements.{All-push, All-head, All-tail}
-use Rattle.std.proofs.lemmas.Grind.{flat_map-append}
-use Rattle.pac_lemmas.proofs.Ranges.{fails-in-range}
-use Rattle.pac_lex.specs.Tokens.{Lexeme}
-use Rattle.pac_lex.specs.Scan.{tokens_of}
-use Rattle.pac_code.specs.Items.{Item, bytes_of}
-use Rattle.pac_asm_line.specs.Statements.{Statement, Form}
-use Rattle.pac_asm_line.specs.Forms.{form_of}
-use Rattle.pac_asm_line.specs.Contents.{content_of}
-use Rattle.pac_asm_line.specs.ContentsProofs.{SizeFits}
-use Rattle.pac_asm_program.specs.Names.{Symbol}
-use Rattle.pac_asm_program.specs.Programs.{items_in}
-use Rattle.pac_asm_program.specs.declared.line.Line.{Line}
+use Rattle.pac_asm.proofs.Common.{All, All-head, All-push, All-tail, AllFit, ArePlacesApart, AsmCode, Bool, Err, FitsLine, Form}
+use Rattle.pac_asm.proofs.Common.{IsApartFrom, IsFit, IsFree, IsFreePlace, IsItemOf, IsLineOf, IsSized, Item, Lexeme, Line, LineError}
+use Rattle.pac_asm.proofs.Common.{LineLayout, List, None, Ok, Option, Placed, SizeFits, Some, Span, Statement, Symbol, [], and_parts, arith}
+use Rattle.pac_asm.proofs.Common.{both_ways, bytes_of, cases_Bool, content_of, covers, fails-in-range, false, flat_map, flat_map-append}
+use Rattle.pac_asm.proofs.Common.{form_of, form_of_line, get_or, inl, inr, is_taken, items_in, leb, leb-true, length, line_at_place, lines}
+use Rattle.pac_asm.proofs.Common.{list_any, list_any-append, ltb, ltb-true, or_left, or_right, phase2, place_covers, refl, rules, subst}
+use Rattle.pac_asm.proofs.Common.{suc, sym, tokens_of, true, zero, ℕ, ℤ, ◌++◌, ◌+◌, ◌<◌, ◌||◌, ◌∙◌, ◌∷◌, ◌≡◌, ◌≤◌, ◌⊎◌}
 use Rattle.pac_asm_program.specs.declared.line.Line.TheVariants as line
-use Rattle.pac_asm.specs.declared.place.Span.{Span}
-use Rattle.pac_asm.specs.declared.place.LineLayout.{LineLayout}
-use Rattle.pac_asm.specs.declared.place.LineLayout.TheVariants.{Placed}
-use Rattle.pac_asm.specs.declared.fault.AsmCode.{AsmCode}
-use Rattle.pac_asm.specs.declared.fault.LineError.{LineError}
 use Rattle.pac_asm.specs.Errors as error
-use Rattle.pac_asm.specs.Standings.{place_covers, is_taken}
-use Rattle.pac_asm.specs.Layouts.{IsFree, IsFreePlace, ArePlacesApart}
-use Rattle.pac_asm.specs.Reading.{form_of_line}
-use Rattle.pac_asm.specs.Phase2.{line_at_place, phase2}
-use Rattle.pac_asm_program.specs.Rom.{covers}
-use Rattle.pac_asm_program.specs.RomLaws.{IsApartFrom, IsFit}
-use Rattle.pac_asm.specs.Items.{IsSized, AllFit, FitsLine, IsItemOf, IsLineOf}
 use Rattle.pac_asm_program.specs.RomLaws as rom_laws
 
 -- ---- a placed line has an item

@@ -1,30 +1,14 @@
 -- The first word of a line whose form is an IF.
-use Rattle.std.proofs.Common.{◌≡◌, ℕ, Bool, true, false, not, List, ◌∷◌, ◌++◌, Option, Some, None, Result, Ok, rules, Err, arith}
-use Rattle.std.proofs.Common.{refl, ap, sym, subst, ◌∙◌, is_some, if◌then◌else◌}
-use Rattle.std.proofs.lemmas.List.{take_at}
-use Rattle.std.specs.Option.{ok_or}
-use Rattle.std.specs.Result.{result_map_both}
-use Rattle.pac_lex.specs.declared.token.TokenKind.{TokenKind}
+use Rattle.pac_asm.proofs.Common.{Bool, Err, Form, If, IsToken, LexFault, Lexeme, List, None, Ok, Option, Result, Some, Statement, Syntax}
+use Rattle.pac_asm.proofs.Common.{Token, TokenKind, after_colon, after_gap, ap, arith, bytes, condition, conditional_of_directive}
+use Rattle.pac_asm.proofs.Common.{conditional_of_line, directive_of, end_condition, equate, false, first_word, form_of, form_of_line}
+use Rattle.pac_asm.proofs.Common.{if◌then◌else◌, is_name_kind, is_some, may_stand, not, nothing, ok_or, operation, origin, otherwise}
+use Rattle.pac_asm.proofs.Common.{prefix-of-all, refl, result_map_both, rules, space, statement_after_label, statement_of, subst, sym}
+use Rattle.pac_asm.proofs.Common.{take_at, tokens-read, tokens_of, true, words, ℕ, ◌++◌, ◌∙◌, ◌∷◌, ◌≡◌}
 use Rattle.pac_lex.specs.declared.token.TokenKind.TheVariants as kinds
-use Rattle.pac_lex.specs.declared.fault.LexFault.{LexFault}
-use Rattle.pac_lex.specs.Bytes.{after_gap}
-use Rattle.pac_lex.specs.Tokens.{Lexeme, IsToken}
-use Rattle.pac_lex.specs.Words.{first_word}
-use Rattle.pac_lex.specs.Scan.{tokens_of}
 use Rattle.pac_lex.specs.Results.{◌>>=◌}
-use Rattle.pac_lex.proofs.Prefixes.{prefix-of-all}
-use Rattle.pac_lex.proofs.LineLaws.{tokens-read}
 use Rattle.pac_asm_operation.specs.declared.directive.Directive.TheVariants as directives
-use Rattle.pac_asm_operation.specs.Directives.{directive_of}
-use Rattle.pac_asm_line.specs.Statements.{Statement, nothing, origin, equate, bytes, words, space, condition, otherwise, end_condition}
-use Rattle.pac_asm_line.specs.Statements.{operation, Form}
-use Rattle.pac_asm_line.specs.Forms.{is_name_kind, statement_of, after_colon, statement_after_label, may_stand, form_of}
 use Rattle.pac_asm_line.specs.Forms as forms
-use Rattle.pac_asm_line.specs.declared.conditional.Conditional.TheVariants.{If}
-use Rattle.pac_asm_line.specs.Conditionals.{conditional_of_directive}
-use Rattle.pac_asm.specs.Unclosed.{conditional_of_line}
-use Rattle.pac_asm.specs.Reading.{form_of_line}
-use Rattle.pac_asm.specs.declared.fault.AsmCode.TheVariants.{Token, Syntax}
 
 -- ---- the first token
 

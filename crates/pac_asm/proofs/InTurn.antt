@@ -1,10 +1,6 @@
 -- A step that went well: what its parts gave, one after another.
-use Rattle.std.proofs.Common.{◌≡◌, ℕ, ◌+◌, Bool, true, List, ◌∷◌, Result, Ok, Err, if◌then◌else◌, rules}
-use Rattle.pac_asm.specs.declared.fault.AsmCode.{AsmCode}
-use Rattle.pac_asm.specs.declared.fault.AsmFault.{AsmFault}
-use Rattle.pac_asm.specs.Results.{◌>>=◌, result_of_line}
-use Rattle.pac_asm.specs.Standings.{Standing}
-use Rattle.pac_asm.specs.Phase1.{after_text, phase1}
+use Rattle.pac_asm.proofs.Common.{AsmCode, AsmFault, Bool, Err, List, Ok, Result, Standing, after_text, if◌then◌else◌, phase1}
+use Rattle.pac_asm.proofs.Common.{result_of_line, rules, true, ℕ, ◌+◌, ◌>>=◌, ◌∷◌, ◌≡◌}
 
 pub gone : {A B E : Type 0} (answer : Result A E) (go : A → Result B E) (next : B) → (answer >>= go) ≡ Ok next
     → (found : A) × (answer ≡ Ok found) × (go found ≡ Ok next)

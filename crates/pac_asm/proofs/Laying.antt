@@ -1,16 +1,8 @@
 -- The first phase line by line.
-use Rattle.std.proofs.Common.{◌≡◌, ℕ, ◌+◌, Bool, false, List, [], ◌∷◌, Option, Some, Result, Ok, Err, option_map, length, rules}
-use Rattle.std.proofs.Common.{ap, sym, ◌∙◌, arith, cond}
-use Rattle.std.specs.Str.Lines.{lines}
-use Rattle.pac_asm.specs.declared.fault.AsmFault.{AsmFault}
-use Rattle.pac_asm.specs.declared.fault.AsmError.{AsmError}
-use Rattle.pac_asm.specs.Errors.{AssemblyFails}
-use Rattle.pac_asm.specs.Results.{◌>>=◌, result_of_line}
-use Rattle.pac_asm.specs.Pairing.{is_found_line}
-use Rattle.pac_asm.specs.Unclosed.{conditional_of_line, is_never_closed}
-use Rattle.pac_asm.specs.UnclosedProofs.{first_unclosed}
-use Rattle.pac_asm.specs.Standings.{Standing}
-use Rattle.pac_asm.specs.Phase1.{after_text, after_line, unless_left_open, phase1}
+use Rattle.pac_asm.proofs.Common.{AsmError, AsmFault, AssemblyFails, Bool, Err, List, Ok, Option, Result, Some, Standing, [], after_line}
+use Rattle.pac_asm.proofs.Common.{after_text, ap, arith, cond, conditional_of_line, false, first_unclosed, is_found_line, is_never_closed}
+use Rattle.pac_asm.proofs.Common.{length, lines, option_map, phase1, result_of_line, rules, sym, unless_left_open, ℕ, ◌+◌, ◌>>=◌, ◌∙◌, ◌∷◌}
+use Rattle.pac_asm.proofs.Common.{◌≡◌}
 use Rattle.pac_asm.proofs.Pairs.{shifted}
 
 -- what is known after some lines: the line after them stands below so many

@@ -1,28 +1,10 @@
 -- Lines that are skipped leave nothing in a program.
-use Rattle.std.proofs.lemmas.Grind.{common_steps}
-use Rattle.std.proofs.Common.{◌≡◌, ℕ, ◌+◌, suc, false, List, [], ◌∷◌, ◌++◌, Some, Result, Ok, length, refl, sym, ◌∙◌, ap, append_assoc}
-use Rattle.std.proofs.Common.{append-nil, length-append, arith, rules}
-use Rattle.std.specs.Prelude.{slice_get}
-use Rattle.std.proofs.lemmas.Option.{same_Some}
-use Rattle.pac_lemmas.proofs.Lists.{slice_get-after}
-use Rattle.pac_lemmas.proofs.Options.{same-Ok}
-use Rattle.pac_asm_program.specs.Names.{Symbol}
-use Rattle.pac_asm_program.specs.Programs.{Assembled}
-use Rattle.pac_asm_program.specs.declared.line.Line.{Line}
+use Rattle.pac_asm.proofs.Common.{AllFit, AsmCode, AsmFault, Assembled, IsLeftOutIfSkipped, Line, LineLayout, List, Ok, Result, Skipped}
+use Rattle.pac_asm.proofs.Common.{SkippedLinesAreLeftOut, Some, Standing, Symbol, [], after_text, after_texts, ap, append-nil, append_assoc}
+use Rattle.pac_asm.proofs.Common.{arith, common_steps, conditional_of_line, false, first_standing, is_judged, length, length-append}
+use Rattle.pac_asm.proofs.Common.{line_at_place, phase1, phase2, program_of, refl, rules, same-Ok, same_Some, slice_get, slice_get-after}
+use Rattle.pac_asm.proofs.Common.{suc, sym, ℕ, ◌++◌, ◌+◌, ◌>>=◌, ◌∙◌, ◌∷◌, ◌≡◌}
 use Rattle.pac_asm_program.specs.declared.line.Line.TheVariants as entries
-use Rattle.pac_asm.specs.declared.place.LineLayout.{LineLayout}
-use Rattle.pac_asm.specs.declared.place.LineLayout.TheVariants.{Skipped}
-use Rattle.pac_asm.specs.declared.fault.AsmCode.{AsmCode}
-use Rattle.pac_asm.specs.declared.fault.AsmFault.{AsmFault}
-use Rattle.pac_asm.specs.Results.{◌>>=◌}
-use Rattle.pac_asm.specs.Conditions.{is_judged}
-use Rattle.pac_asm.specs.Unclosed.{conditional_of_line}
-use Rattle.pac_asm.specs.Standings.{Standing, first_standing}
-use Rattle.pac_asm.specs.Phase1.{after_text, phase1}
-use Rattle.pac_asm.specs.Phase2.{line_at_place, phase2}
-use Rattle.pac_asm.specs.Items.{AllFit}
-use Rattle.pac_asm.specs.Programs.{program_of}
-use Rattle.pac_asm.specs.Skipping.{after_texts, IsLeftOutIfSkipped, SkippedLinesAreLeftOut}
 use Rattle.pac_asm.proofs.Skipping.{passed-over}
 use Rattle.pac_asm.proofs.InTurn.{gone, if-ok, in-line-ok, first-line}
 use Rattle.pac_asm.proofs.Sizes.{text, laid}

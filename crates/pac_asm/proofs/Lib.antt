@@ -1,3 +1,4 @@
+pub mod Common
 pub mod Cells
 pub mod Coverage
 pub mod Pairs

@@ -1,18 +1,9 @@
 -- The open IFs of the first phase, as lines are counted by.
-use Rattle.std.proofs.Common.{◌≡◌, ℤ, pos, Bool, true, false, not, List, [], ◌∷◌, Option, Some, None, Result, Ok, Err, rules, refl, ap, sym}
-use Rattle.std.proofs.Common.{subst, if◌then◌else◌, nat_lt, length}
-use Rattle.std.specs.Ordering.{int_eq}
-use Rattle.std.proofs.lemmas.Bool.{or_parts}
-use Rattle.pac_lemmas.proofs.Options.{same-Ok}
-use Rattle.pac_asm_line.specs.declared.conditional.Conditional.{Conditional}
-use Rattle.pac_asm_line.specs.declared.conditional.Conditional.TheVariants.{If, Else, EndIf}
-use Rattle.pac_asm.specs.declared.condition.IfState.{IfState}
-use Rattle.pac_asm.specs.declared.condition.IfState.TheVariants.{Met, Unmet, Otherwise, Over, Passed}
-use Rattle.pac_asm.specs.declared.fault.AsmCode.{AsmCode}
-use Rattle.pac_asm.specs.declared.fault.AsmCode.TheVariants.{TooDeep}
-use Rattle.pac_asm.specs.Conditions.{is_judged, most_open_ifs, condition_of, after_else, after_end, after_skipped}
-use Rattle.pac_asm.specs.Counting.{OpenIf, counts, ends_part, is_read, behind_else, behind_endif, behind_skipped}
-use Rattle.pac_asm.specs.Assignments.{is_nonzero}
+use Rattle.pac_asm.proofs.Common.{AsmCode, Bool, Conditional, Else, EndIf, Err, If, IfState, List, Met, None, Ok, OpenIf, Option, Otherwise}
+use Rattle.pac_asm.proofs.Common.{Over, Passed, Result, Some, TooDeep, Unmet, [], after_else, after_end, after_skipped, ap, behind_else}
+use Rattle.pac_asm.proofs.Common.{behind_endif, behind_skipped, condition_of, counts, ends_part, false, if◌then◌else◌, int_eq, is_judged}
+use Rattle.pac_asm.proofs.Common.{is_nonzero, is_read, length, most_open_ifs, nat_lt, not, or_parts, pos, refl, rules, same-Ok, subst, sym}
+use Rattle.pac_asm.proofs.Common.{true, ℤ, ◌∷◌, ◌≡◌}
 
 abbrev pub open_of : IfState → OpenIf
 open_of Met = record { is_true = true; is_parted = false }

@@ -1,14 +1,7 @@
 -- The outermost IF that is open after the last line is the first that is never closed.
-use Rattle.std.proofs.Common.{◌≡◌, ℕ, zero, suc, ◌+◌, ◌≤◌, Bool, false, List, [], ◌∷◌, Option, Some, None, map, option_map}
-use Rattle.std.proofs.Common.{refl, ap, sym, ◌∙◌, arith, cond, length, rules}
-use Rattle.std.specs.Str.Lines.{lines}
-use Rattle.std.proofs.lemmas.Bool.{cond-true, cond-false, ne_eqb}
-use Rattle.pac_asm_line.specs.declared.conditional.Conditional.{Conditional}
-use Rattle.pac_asm_line.specs.declared.conditional.Conditional.TheVariants.{If, Else, EndIf}
-use Rattle.pac_asm.specs.declared.lines.Pairing.{Pairing}
-use Rattle.pac_asm.specs.Pairing.{pairing_after_word}
-use Rattle.pac_asm.specs.Unclosed.{conditional_of_line, stays_open, is_never_closed}
-use Rattle.pac_asm.specs.UnclosedProofs.{first_unclosed}
+use Rattle.pac_asm.proofs.Common.{Bool, Conditional, Else, EndIf, If, List, None, Option, Pairing, Some, [], ap, arith, cond, cond-false}
+use Rattle.pac_asm.proofs.Common.{cond-true, conditional_of_line, false, first_unclosed, is_never_closed, length, lines, map, ne_eqb}
+use Rattle.pac_asm.proofs.Common.{option_map, pairing_after_word, refl, rules, stays_open, suc, sym, zero, ℕ, ◌+◌, ◌∙◌, ◌∷◌, ◌≡◌, ◌≤◌}
 
 -- the first that is never closed below so many lines
 abbrev pub shifted : ℕ → Option ℕ → Option ℕ

@@ -1,14 +1,7 @@
 -- The first phase gives each line a place that fits it.
-use Rattle.std.proofs.lemmas.Grind.{common_steps}
-use Rattle.std.proofs.Common.{◌≡◌, ℕ, ◌+◌, Bool, List, [], ◌∷◌, ◌++◌, Option, Ok, sym, subst, arith, rules, if◌then◌else◌}
-use Rattle.pac_asm_line.specs.Statements.{Form}
-use Rattle.pac_asm.specs.declared.place.LineLayout.{LineLayout}
-use Rattle.pac_asm.specs.Conditions.{is_judged}
-use Rattle.pac_asm.specs.Unclosed.{conditional_of_line}
-use Rattle.pac_asm.specs.Standings.{Standing, first_standing}
-use Rattle.pac_asm.specs.Reading.{form_of_line}
-use Rattle.pac_asm.specs.Phase1.{after_item, after_judged, after_passed, after_text, phase1}
-use Rattle.pac_asm.specs.Items.{IsSized, FitsLine, AllFit}
+use Rattle.pac_asm.proofs.Common.{AllFit, Bool, FitsLine, Form, IsSized, LineLayout, List, Ok, Option, Standing, [], after_item}
+use Rattle.pac_asm.proofs.Common.{after_judged, after_passed, after_text, arith, common_steps, conditional_of_line, first_standing}
+use Rattle.pac_asm.proofs.Common.{form_of_line, if◌then◌else◌, is_judged, phase1, rules, subst, sym, ℕ, ◌++◌, ◌+◌, ◌∷◌, ◌≡◌}
 use Rattle.pac_asm.proofs.InTurn.{first-line}
 
 -- a line adds a place that fits it

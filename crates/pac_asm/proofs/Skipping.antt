@@ -1,10 +1,6 @@
 -- Lines that are skipped do nothing.
-use Rattle.std.proofs.Common.{◌≡◌, ℕ, false, List, Ok, refl, rules}
-use Rattle.pac_asm.specs.Conditions.{is_judged}
-use Rattle.pac_asm.specs.Unclosed.{conditional_of_line}
-use Rattle.pac_asm.specs.Standings.{Standing}
-use Rattle.pac_asm.specs.Phase1.{after_text}
-use Rattle.pac_asm.specs.Skipping.{IsPassedOver, SkippedLinesDoNothing}
+use Rattle.pac_asm.proofs.Common.{IsPassedOver, List, Ok, SkippedLinesDoNothing, Standing, after_text, conditional_of_line, false}
+use Rattle.pac_asm.proofs.Common.{is_judged, refl, rules, ℕ, ◌≡◌}
 
 pub passed-over : (above after : Standing) (line : List ℕ) → is_judged above.conditions (conditional_of_line line) ≡ false →
     after_text above line ≡ Ok after → IsPassedOver above after

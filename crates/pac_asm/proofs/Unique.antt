@@ -1,13 +1,8 @@
 -- At most one assignment is right, where each name whose value is needed at once is defined above.
-use Rattle.std.proofs.Common.{◌≡◌, ℕ, ℤ, Bool, List, [], ◌∷◌, ◌++◌, Option, Some, Result, arith, ap, sym, ◌∙◌, append_assoc}
-use Rattle.std.proofs.lemmas.Option.{none-some, same_Some}
-use Rattle.pac_asm_program.specs.Names.{Symbol, number_of_symbol}
-use Rattle.pac_asm_line.specs.Statements.{Statement, Form}
-use Rattle.pac_asm.specs.declared.fault.AsmCode.{AsmCode}
-use Rattle.pac_asm.specs.Counting.{is_read}
-use Rattle.pac_asm.specs.Unclosed.{conditional_of_line}
-use Rattle.pac_asm.specs.Assignments.{Spot, LineStep, step_by, step_read, step_if, step_of, defined_after, defined_in, StatementStands}
-use Rattle.pac_asm.specs.Assignments.{ReadStands, LineStands, RestStands, AreDefinedAbove, AtMostOneIsRight}
+use Rattle.pac_asm.proofs.Common.{AreDefinedAbove, AsmCode, AtMostOneIsRight, Bool, Form, LineStands, LineStep, List, Option, ReadStands}
+use Rattle.pac_asm.proofs.Common.{RestStands, Result, Some, Spot, Statement, StatementStands, Symbol, [], ap, append_assoc, arith}
+use Rattle.pac_asm.proofs.Common.{conditional_of_line, defined_after, defined_in, is_read, none-some, number_of_symbol, same_Some, step_by}
+use Rattle.pac_asm.proofs.Common.{step_if, step_of, step_read, sym, ℕ, ℤ, ◌++◌, ◌∙◌, ◌∷◌, ◌≡◌}
 use Rattle.pac_asm.proofs.Values.{Extends, found-first, same-value}
 use Rattle.pac_asm.proofs.Assigned.{mapped}
 

@@ -1,14 +1,8 @@
 -- Names that stand for the same number in two assignments, and the values that they give.
-use Rattle.std.proofs.Common.{arith}
-use Rattle.std.proofs.Common.{◌≡◌, ℕ, ℤ, Bool, List, [], ◌∷◌, ◌++◌, Option, Some, Ok, refl, ap, sym, ◌∙◌, inl, inr, rules, if◌then◌else◌}
-use Rattle.std.proofs.lemmas.Option.{none-some}
-use Rattle.pac_expr.specs.Trees.{Tree, atom, group, signed, joined}
+use Rattle.pac_asm.proofs.Common.{Bool, Err-is-no-Ok, List, NamesStand, Ok, Option, Some, Symbol, Tree, [], ap, arith, atom, group}
+use Rattle.pac_asm.proofs.Common.{if◌then◌else◌, inl, inr, joined, joined_value, none-some, number_of_symbol, refl, rules, sign_value}
+use Rattle.pac_asm.proofs.Common.{signed, sym, told, tree_value, ℕ, ℤ, ◌++◌, ◌∙◌, ◌∷◌, ◌≡◌}
 use Rattle.pac_expr.specs.Trees as trees
-use Rattle.pac_expr.specs.Values.{sign_value, joined_value, tree_value}
-use Rattle.pac_expr.proofs.Undefined.{told}
-use Rattle.pac_lemmas.proofs.Options.{Err-is-no-Ok}
-use Rattle.pac_asm_program.specs.Names.{Symbol, number_of_symbol}
-use Rattle.pac_asm.specs.Assignments.{NamesStand}
 
 -- an assignment gives each of these names its number
 abbrev pub Extends : List Symbol → (List ℕ → Option ℤ) → Type 0

@@ -1,19 +1,10 @@
 -- A line that begins with neither E nor I begins with no word by which lines count or are skipped.
-use Rattle.std.proofs.Common.{◌≡◌, ℕ, suc, ◌+◌, ◌<◌, Bool, true, false, not, ◌||◌, List, [], ◌∷◌}
-use Rattle.std.proofs.Common.{slice_get, take, refl, sym, ◌∙◌, ap, arith, inl, inr}
+use Rattle.pac_asm_line.proofs.Common.{Bool, Conditional, Directive, List, [], agree_below, agree_below_at, and_parts, ap, arith}
+use Rattle.pac_asm_line.proofs.Common.{begins_directive, cases_Bool, cond-false, cond-true, conditional_of_directive, conditional_word}
+use Rattle.pac_asm_line.proofs.Common.{directive_names, directive_of, false, false≢true, filter, inl, inr, is_name_byte, list_all, lookup}
+use Rattle.pac_asm_line.proofs.Common.{may_begin_conditional, not, prefix_len, refl, slice_get, str_eq_ignore_ascii_case, suc, sym, take}
+use Rattle.pac_asm_line.proofs.Common.{take_while, true, with-letter, ℕ, ◌+◌, ◌<◌, ◌||◌, ◌∙◌, ◌∷◌, ◌≡◌}
 use Rattle.std.specs.Prelude.{Option, Some, None, is_some}
-use Rattle.std.specs.List.{filter, list_all, prefix_len, take_while}
-use Rattle.std.specs.Map.{lookup}
-use Rattle.std.specs.Str.{str_eq_ignore_ascii_case}
-use Rattle.std.proofs.lemmas.Bool.{and_parts, cases_Bool, cond-true, cond-false, agree_below, agree_below_at, false≢true}
-use Rattle.pac_lex.specs.Bytes.{is_name_byte}
-use Rattle.pac_asm_operation.specs.declared.directive.Directive.{Directive}
-use Rattle.pac_asm_operation.specs.DirectivesProofs.{begins_directive}
-use Rattle.pac_asm_operation.specs.Directives.{directive_names, directive_of}
-use Rattle.pac_asm_operation.proofs.FirstLetter.{with-letter}
-use Rattle.pac_asm_line.specs.declared.conditional.Conditional.{Conditional}
-use Rattle.pac_asm_line.specs.Conditionals.{conditional_of_directive, conditional_word}
-use Rattle.pac_asm_line.specs.ConditionalsProofs.{may_begin_conditional}
 
 -- a directive that has nothing to do with counting
 abbrev is_other : List ℕ × Directive → Bool

@@ -1,9 +1,6 @@
 -- Bytes one after another: the order of joining makes no difference.
-use Rattle.std.proofs.Common.{◌≡◌, ℕ, List, Ok, Err, refl, ap, append_assoc}
-use Rattle.pac_asm_operation.specs.declared.fault.OperationFault.{OperationFault}
-use Rattle.pac_asm_operation.specs.declared.fault.OperationFault.TheVariants.{Undefined, Arithmetic, Range}
-use Rattle.pac_asm_line.specs.Contents.{OrFault, joined_bytes}
-use Rattle.pac_asm_operation.specs.Operations.{first_operation_fault}
+use Rattle.pac_asm_line.proofs.Common.{Arithmetic, Err, List, Ok, OperationFault, OrFault, Range, Undefined, ap, append_assoc}
+use Rattle.pac_asm_line.proofs.Common.{first_operation_fault, joined_bytes, refl, ℕ, ◌≡◌}
 
 first-assoc : (a b c : OperationFault) →
     first_operation_fault (first_operation_fault a b) c ≡ first_operation_fault a (first_operation_fault b c)

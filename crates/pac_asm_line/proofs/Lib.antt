@@ -1,3 +1,4 @@
+pub mod Common
 pub mod Parts
 pub mod Joins
 pub mod Sizes

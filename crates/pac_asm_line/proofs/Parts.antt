@@ -1,20 +1,10 @@
 -- Lists of operands: what each of them is, where each is something.
-use Rattle.std.proofs.Common.{◌≡◌, ℕ, ◌<◌, ◌==◌, ◌&&◌, Bool, true, false, List, [], ◌∷◌, Option, Some, None, map, is_some, if◌then◌else◌}
-use Rattle.std.proofs.Common.{refl, arith, option_map, length, unwrap_or, IfSome, ◌≤◌}
-use Rattle.std.proofs.lemmas.List.{length-map}
-use Rattle.std.specs.Option.{option_and_then, option_map_or, option_or}
-use Rattle.std.specs.List.{list_all, list_any, slice_split}
-use Rattle.std.proofs.lemmas.List.Splits.{length-slice_split}
-use Rattle.pac_lex.specs.declared.token.Token.{Token}
-use Rattle.pac_lex.specs.Tokens.{Lexeme}
-use Rattle.pac_lex.specs.TokensProofs.{views}
-use Rattle.pac_expr.specs.Trees.{Tree, atom, here}
-use Rattle.pac_expr.specs.Parsing.{tree_in}
-use Rattle.pac_asm_operation.specs.Reserved.{expression_in, is_reserved_token}
-use Rattle.pac_asm_operation.specs.Operands.{each_or_none, is_comma, parts_at_commas}
-use Rattle.pac_asm_line.specs.Statements.{DataPart, text, value, bytes, words}
-use Rattle.pac_asm_line.specs.Forms.{one_or_more, part_in, text_in}
-use Rattle.pac_asm_line.specs.Views.{part_of_tokens, spelled_tree}
+use Rattle.pac_asm_line.proofs.Common.{Bool, DataPart, IfSome, Lexeme, List, None, Option, Some, Token, Tree, [], arith, atom, bytes}
+use Rattle.pac_asm_line.proofs.Common.{each_or_none, expression_in, false, here, if◌then◌else◌, is_comma, is_reserved_token, is_some}
+use Rattle.pac_asm_line.proofs.Common.{length, length-map, length-slice_split, list_all, list_any, map, one_or_more, option_and_then}
+use Rattle.pac_asm_line.proofs.Common.{option_map, option_map_or, option_or, part_in, part_of_tokens, parts_at_commas, refl, slice_split}
+use Rattle.pac_asm_line.proofs.Common.{spelled_tree, text, text_in, tree_in, true, unwrap_or, value, views, words, ℕ, ◌&&◌, ◌<◌, ◌==◌, ◌∷◌}
+use Rattle.pac_asm_line.proofs.Common.{◌≡◌, ◌≤◌}
 
 -- what an item and the items after it are together
 each-step : {X Y : Type 0} (g : X → Y) (x : X) (xs : List X) (found : Option Y) (others : Option (List Y)) (all : Bool) →

@@ -1,17 +1,8 @@
 -- The bytes of operands are as many as their form says.
-use Rattle.std.proofs.Common.{◌≡◌, ℕ, ℤ, ◌+◌, ◌*◌, List, [], ◌∷◌, ◌++◌, Option, Some, Ok, Err, refl, ◌∙◌, arith, length, length-append}
-use Rattle.std.proofs.Common.{IfOk, IfSome, Result}
-use Rattle.std.specs.List.{sum_by}
-use Rattle.std.specs.Result.{result_map_both}
-use Rattle.std.proofs.lemmas.List.Sums.{sum_by-cons}
-use Rattle.pac_expr.specs.Trees.{Tree}
-use Rattle.pac_num.specs.Numbers.{low_byte, high_byte}
-use Rattle.pac_asm_line.specs.Statements.{DataPart, text, value}
-use Rattle.pac_asm_line.specs.Contents.{OrFault, byte_value, gathered_bytes, joined_bytes, map_unless_fault, part_bytes, part_size}
-use Rattle.pac_asm_line.specs.Contents.{word_bytes, word_value}
-use Rattle.pac_asm_line.specs.Gathered.{ContentGives}
-use Rattle.pac_asm_line.specs.declared.gathered.ContentError.{ContentError}
-use Rattle.pac_code.specs.Items.{Data, IsValid, bytes_in}
+use Rattle.pac_asm_line.proofs.Common.{ContentError, ContentGives, Data, DataPart, Err, IfOk, IfSome, IsValid, List, Ok, Option, OrFault}
+use Rattle.pac_asm_line.proofs.Common.{Result, Some, Tree, [], arith, byte_value, bytes_in, gathered_bytes, high_byte, joined_bytes, length}
+use Rattle.pac_asm_line.proofs.Common.{length-append, low_byte, map_unless_fault, part_bytes, part_size, refl, result_map_both, sum_by}
+use Rattle.pac_asm_line.proofs.Common.{sum_by-cons, text, value, word_bytes, word_value, ℕ, ℤ, ◌*◌, ◌++◌, ◌+◌, ◌∙◌, ◌∷◌, ◌≡◌}
 
 -- bytes joined to others
 joined-length : (a b : OrFault (List ℕ)) (m n : ℕ) (bytes : List ℕ) →

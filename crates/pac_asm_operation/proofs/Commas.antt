@@ -1,14 +1,8 @@
 -- A part ends at its comma.
-use Rattle.std.proofs.Common.{◌≡◌, ℕ, ◌+◌, ◌-◌, ◌<◌, ◌≤◌, Bool, not, cond, List, [], ◌∷◌, length, take, drop, rules, refl, sym, ◌∙◌, ap}
-use Rattle.std.proofs.Common.{arith, inl, inr, length-drop}
-use Rattle.std.specs.List.{slice_split, onto_first, position_or_len}
-use Rattle.std.proofs.lemmas.Bool.{cases_Bool}
-use Rattle.std.proofs.lemmas.List.{take-map, drop-map, length-map}
-use Rattle.std.proofs.Math.Seq.{take-length}
-use Rattle.std.proofs.lemmas.List.Splits.{slice_split-cons_no, slice_split_first}
-use Rattle.pac_lex.specs.declared.token.Token.{Token}
-use Rattle.pac_lex.specs.TokensProofs.{view, views}
-use Rattle.pac_asm_operation.specs.Operands.{is_comma}
+use Rattle.pac_asm_operation.proofs.Common.{Bool, List, Token, [], ap, arith, cases_Bool, cond, drop, drop-map, inl, inr, is_comma, length}
+use Rattle.pac_asm_operation.proofs.Common.{length-drop, length-map, not, onto_first, position_or_len, refl, rules, slice_split}
+use Rattle.pac_asm_operation.proofs.Common.{slice_split-cons_no, slice_split_first, sym, take, take-length, take-map, view, views, ℕ, ◌+◌}
+use Rattle.pac_asm_operation.proofs.Common.{◌-◌, ◌<◌, ◌∙◌, ◌∷◌, ◌≡◌, ◌≤◌}
 
 -- where nothing passes before the end, there is one part
 one-part : {X : Type 0} (p : X → Bool) (xs : List X) → length xs ≤ position_or_len p xs → slice_split p xs ≡ xs ∷ []

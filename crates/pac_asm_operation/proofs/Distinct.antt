@@ -1,17 +1,8 @@
 -- The reserved words are distinct, and all that are reserved.
-use Rattle.std.proofs.Common.{◌≡◌, ℕ, true, List, refl, arith}
-use Rattle.std.specs.Prelude.{is_some}
-use Rattle.std.specs.List.{list_any}
-use Rattle.std.specs.Map.{keys_of}
-use Rattle.std.proofs.lemmas.List.Folds.{list_any-append}
-use Rattle.std.proofs.lemmas.Map.Made.{is_some-lookup}
-use Rattle.pac_lemmas.proofs.Distinct.{is_distinct, distinct-by-test}
-use Rattle.pac_table_names.specs.Names.{is_written, name_of, name_texts}
-use Rattle.pac_table_names.specs.Words.{operation_names}
-use Rattle.pac_table_names.proofs.Distinct.{operation_names_are_distinct}
-use Rattle.pac_asm_operation.specs.Directives.{directive_names, directive_of, is_directive}
-use Rattle.pac_asm_operation.specs.Reserved.{is_reserved}
-use Rattle.pac_asm_operation.specs.Distinct.{reserved_words, ReservedWordsAreDistinct}
+use Rattle.pac_asm_operation.proofs.Common.{List, ReservedWordsAreDistinct, arith, directive_names, directive_of, distinct-by-test}
+use Rattle.pac_asm_operation.proofs.Common.{is_directive, is_distinct, is_reserved, is_some, is_some-lookup, is_written, keys_of, list_any}
+use Rattle.pac_asm_operation.proofs.Common.{list_any-append, name_of, name_texts, operation_names, operation_names_are_distinct, refl}
+use Rattle.pac_asm_operation.proofs.Common.{reserved_words, true, ℕ, ◌≡◌}
 
 test : is_distinct is_written reserved_words ≡ true
 unfolding is_distinct operation_names

@@ -1,25 +1,12 @@
 -- An expression in parentheses as a whole is a group, and its tokens between them are an expression; another one isn't.
-use Rattle.std.proofs.lemmas.Grind.{common_steps}
-use Rattle.std.proofs.Common.{◌≡◌, ℕ, ◌-◌, Bool, true, false, ◌&&◌, ◌||◌, if◌then◌else◌, List, [], ◌∷◌, ◌++◌, length, take}
-use Rattle.std.proofs.Common.{refl, sym, ◌∙◌, ap, arith, slice_get, rules}
-use Rattle.std.specs.Prelude.{Option, Some, None, is_some, option_map}
-use Rattle.std.specs.Option.{unwrap_or}
-use Rattle.std.specs.List.{list_any}
-use Rattle.std.proofs.lemmas.Bool.{and_parts, false≢true, or_parts}
-use Rattle.pac_lex.specs.declared.token.Token.{Token}
-use Rattle.pac_lex.specs.declared.token.TokenKind.{TokenKind}
+use Rattle.pac_asm_operation.proofs.Common.{Bool, Indexed, IsTree, Lexeme, List, Mark, Memory, Name, None, Option, Some, Token, TokenKind}
+use Rattle.pac_asm_operation.proofs.Common.{Tree, Value, [], and_parts, ap, arith, atom, closes, closing, common_steps, ends_closed}
+use Rattle.pac_asm_operation.proofs.Common.{expression_in, expression_operand, false, false≢true, group, here, if◌then◌else◌}
+use Rattle.pac_asm_operation.proofs.Common.{indirect_operand, inside_parentheses, is_reserved_token, is_sign, is_some, kind_mark, length}
+use Rattle.pac_asm_operation.proofs.Common.{list_any, marks_of, opening, opens, option_map, or_parts, refl, reserves, rules, slice_get}
+use Rattle.pac_asm_operation.proofs.Common.{spelling, sym, take, tree-of-spelling, tree_in, tree_of, tree_of_tokens, tree_within, true}
+use Rattle.pac_asm_operation.proofs.Common.{unwrap_or, views, ℕ, ◌&&◌, ◌++◌, ◌-◌, ◌||◌, ◌∙◌, ◌∷◌, ◌≡◌}
 use Rattle.pac_lex.specs.declared.token.TokenKind.TheVariants as kinds
-use Rattle.pac_lex.specs.Tokens.{Lexeme}
-use Rattle.pac_lex.specs.TokensProofs.{views}
-use Rattle.pac_expr.specs.Trees.{Tree, atom, group, here, Mark, opening, closing, kind_mark, marks_of, spelling}
-use Rattle.pac_expr.specs.ParsingProofs.{tree_of}
-use Rattle.pac_expr.specs.Parsing.{tree_in}
-use Rattle.pac_expr.proofs.Complete.{tree-of-spelling}
-use Rattle.pac_table.specs.declared.operands.Name.{Name}
-use Rattle.pac_asm_operation.specs.declared.operand.Operand.TheVariants.{Indexed, Memory, Value}
-use Rattle.pac_asm_operation.specs.Reserved.{reserves, is_reserved_token, expression_in}
-use Rattle.pac_asm_operation.specs.Operands.{opens, closes, ends_closed, is_sign, expression_operand, indirect_operand}
-use Rattle.pac_asm_operation.specs.Views.{tree_of_tokens, tree_within, IsTree, inside_parentheses}
 
 -- ---- the last token
 

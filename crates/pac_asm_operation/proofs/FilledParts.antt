@@ -1,14 +1,8 @@
 -- Operands that have a form, in the parts of the code, one by one.
-use Rattle.std.proofs.Common.{rules, arith, ◌≡◌, ℕ, ℤ, Bool, true, false, ◌&&◌, if◌then◌else◌, List, [], ◌∷◌, sym, ◌∙◌, ap}
-use Rattle.std.proofs.lemmas.Grind.{common_steps}
-use Rattle.std.specs.Prelude.{Option, Some, None}
-use Rattle.std.proofs.lemmas.Bool.{and_parts, false≢true}
-use Rattle.pac_table.specs.declared.operands.Shape.{Shape}
-use Rattle.pac_table.specs.Instructions.{Instruction}
-use Rattle.pac_table_names.specs.Names.{present_shape, listed_shapes}
-use Rattle.pac_asm_operation.specs.declared.operand.Operand.{Operand}
-use Rattle.pac_asm_operation.specs.Operations.{are_forms, takes, all_take, with_operand, with_all_operands}
-use Rattle.pac_asm_operation.specs.Views.{operand_pair}
+use Rattle.pac_asm_operation.proofs.Common.{Bool, Instruction, List, None, Operand, Option, Shape, Some, [], all_take, and_parts, ap}
+use Rattle.pac_asm_operation.proofs.Common.{are_forms, arith, common_steps, false, false≢true, if◌then◌else◌, listed_shapes, operand_pair}
+use Rattle.pac_asm_operation.proofs.Common.{present_shape, rules, sym, takes, true, with_all_operands, with_operand, ℕ, ℤ, ◌&&◌, ◌∙◌, ◌∷◌}
+use Rattle.pac_asm_operation.proofs.Common.{◌≡◌}
 
 abbrev pub taken : Shape → ℕ → Operand ℤ → Instruction → Option Instruction
 taken some next operand i = if takes some next operand then Some (with_operand some next operand i) else None

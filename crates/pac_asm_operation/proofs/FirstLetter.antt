@@ -1,11 +1,6 @@
 -- The directives are found by their first letter.
-use Rattle.std.proofs.Common.{◌≡◌, ℕ, List, [], ◌∷◌, slice_get, refl, rules}
-use Rattle.std.specs.Prelude.{Some, None}
-use Rattle.std.specs.List.{filter}
-use Rattle.std.specs.Map.{lookup}
-use Rattle.std.specs.Str.{str_eq_ignore_ascii_case}
-use Rattle.pac_asm_operation.specs.DirectivesProofs.{begins_directive}
-use Rattle.pac_asm_operation.specs.Directives.{directive_names, directive_of}
+use Rattle.pac_asm_operation.proofs.Common.{List, None, Some, [], begins_directive, directive_names, directive_of, filter, lookup, refl}
+use Rattle.pac_asm_operation.proofs.Common.{rules, slice_get, str_eq_ignore_ascii_case, ℕ, ◌∷◌, ◌≡◌}
 
 -- no word at all is no directive
 pub no-letter : (word : List ℕ) → None ≡ slice_get word 0 → None ≡ directive_of word

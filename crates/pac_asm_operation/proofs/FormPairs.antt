@@ -1,7 +1,5 @@
 -- Two operands against two shapes, one by one.
-use Rattle.std.proofs.Common.{List, [], ◌∷◌}
-use Rattle.std.specs.Prelude.{Option, Some, None}
-use Rattle.pac_asm_operation.specs.declared.operand.Operand.{Operand}
+use Rattle.pac_asm_operation.proofs.Common.{List, None, Operand, Option, Some, [], ◌∷◌}
 
 abbrev rest : {A : Type 0} → Option (Operand A) → List (Operand A)
 rest None = []

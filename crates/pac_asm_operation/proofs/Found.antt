@@ -1,30 +1,16 @@
 -- What an operation keeps is the operation of the definitions, and the instruction found in its rows is the first that
 -- the whole table has.
+use Rattle.pac_asm_operation.proofs.Common.{All, AreNamed, Bool, Err, IfOk, IfSome, Instruction, IsKept, Lexeme, List, None, Ok, Operand}
+use Rattle.pac_asm_operation.proofs.Common.{Operands, Operation, OperationFault, Option, Range, Shape, Some, Token, Tree, [], and-false}
+use Rattle.pac_asm_operation.proofs.Common.{and_parts, ap, are_forms, arith, chosen_instruction, code, eqb-true, false, find, find-map-same}
+use Rattle.pac_asm_operation.proofs.Common.{find-same, fits, fits_row, get_or, if◌then◌else◌, instruction_in_row, instruction_of, is_form}
+use Rattle.pac_asm_operation.proofs.Common.{is_some, kept_operation, length, listed_shapes, map, ok_or, operand_pair, operands_of_parts}
+use Rattle.pac_asm_operation.proofs.Common.{operation_of, operation_size, option_and_then, option_map, parts_at_commas, parts_in_row}
+use Rattle.pac_asm_operation.proofs.Common.{position-all-fail, present_shape, refl, row_at, row_count, row_for, row_size, rows_named, rules}
+use Rattle.pac_asm_operation.proofs.Common.{seen_operand, seen_operands, seen_operation, suits, suits_as, suits_row, sym, unwrap_or}
+use Rattle.pac_asm_operation.proofs.Common.{value_named, valued_operands, with_tree, without_place, written_operands, ℕ, ℤ, ◌&&◌, ◌+◌, ◌<◌}
+use Rattle.pac_asm_operation.proofs.Common.{◌==◌, ◌∙◌, ◌∷◌, ◌≡◌}
 use denote.Ref.{Bor}
-use Rattle.std.proofs.Common.{◌≡◌, ℕ, ◌+◌, ◌<◌, ℤ, Bool, false, ◌&&◌, ◌==◌, if◌then◌else◌, [], rules}
-use Rattle.std.proofs.Common.{List, ◌∷◌, length, map, get_or, find, refl, sym, ◌∙◌, ap, arith}
-use Rattle.std.specs.Prelude.{Option, Some, None, is_some, option_map, IfSome, Ok, Err, IfOk}
-use Rattle.std.specs.Option.{unwrap_or, ok_or, option_and_then}
-use Rattle.std.specs.List.{All}
-use Rattle.std.proofs.lemmas.Bool.{and_parts, eqb-true}
-use Rattle.pac_lemmas.proofs.Booleans.{and-false}
-use Rattle.pac_lemmas.proofs.Searches.{find-same, find-map-same, position-all-fail}
-use Rattle.pac_lex.specs.declared.token.Token.{Token}
-use Rattle.pac_lex.specs.Tokens.{Lexeme}
-use Rattle.pac_expr.specs.Trees.{Tree}
-use Rattle.pac_table.specs.declared.operands.Operands.{Operands}
-use Rattle.pac_table.specs.declared.operands.Shape.{Shape}
-use Rattle.pac_table.specs.Instructions.{Instruction, row_at, row_count, code}
-use Rattle.pac_table_names.specs.Names.{value_named, present_shape, listed_shapes, written_operands}
-use Rattle.pac_table_names.specs.ByName.{AreNamed, rows_named}
-use Rattle.pac_asm_operation.specs.declared.fault.OperationFault.{OperationFault}
-use Rattle.pac_asm_operation.specs.declared.fault.OperationFault.TheVariants.{Range}
-use Rattle.pac_asm_operation.specs.declared.operand.Operand.{Operand}
-use Rattle.pac_asm_operation.specs.Operands.{parts_at_commas, operands_of_parts}
-use Rattle.pac_asm_operation.specs.Operations.{Operation, is_form, are_forms, fits, row_for, operation_of, row_size, operation_size}
-use Rattle.pac_asm_operation.specs.Operations.{suits_as, suits, instruction_in_row, valued_operands, chosen_instruction, instruction_of}
-use Rattle.pac_asm_operation.specs.Views.{seen_operand, operand_pair, seen_operands, fits_row}
-use Rattle.pac_asm_operation.specs.Kept.{with_tree, without_place, kept_operation, seen_operation, IsKept, suits_row, parts_in_row}
 use Rattle.pac_asm_operation.proofs.RowSearch.{named-search, found-at}
 
 abbrev pub Place : Type 0

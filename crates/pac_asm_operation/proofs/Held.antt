@@ -1,12 +1,7 @@
 -- What the code of a row holds is an instruction of that row.
-use Rattle.std.proofs.Common.{◌≡◌, ℕ, ◌<◌, ℤ, Bool, true, false, ◌&&◌, if◌then◌else◌, refl, rules, arith}
-use Rattle.std.specs.Prelude.{Option, Some, None, IsSome, IfSome}
-use Rattle.std.proofs.lemmas.Bool.{and_parts, ltb-true}
-use Rattle.pac_table.specs.declared.patterns.Immediate.{Immediate}
-use Rattle.pac_table.specs.Patterns.{IsDisplacement}
-use Rattle.pac_table.specs.Instructions.{Instruction, IsInstruction, row_at, row_count}
-use Rattle.pac_asm_operation.specs.Operations.{holds, holds_displacement}
-use Rattle.pac_asm_operation.specs.Kept.{with_row_number}
+use Rattle.pac_asm_operation.proofs.Common.{Bool, IfSome, Immediate, Instruction, IsDisplacement, IsInstruction, IsSome, None, Option, Some}
+use Rattle.pac_asm_operation.proofs.Common.{and_parts, arith, false, holds, holds_displacement, if◌then◌else◌, ltb-true, refl, row_at}
+use Rattle.pac_asm_operation.proofs.Common.{row_count, rules, true, with_row_number, ℕ, ℤ, ◌&&◌, ◌<◌, ◌≡◌}
 
 displacement-is : (some : Immediate) (n : ℤ) → holds_displacement some n ≡ true → IsDisplacement some n
 displacement-is some n is = search rules

@@ -1,3 +1,4 @@
+pub mod Common
 pub mod Expressions
 pub mod Commas
 pub mod FormPairs

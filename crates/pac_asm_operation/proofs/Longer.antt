@@ -1,12 +1,6 @@
 -- A word that is longer than all directives is none of them.
-use Rattle.std.proofs.Common.{◌≡◌, ℕ, ◌<◌, nat_le, true, List, [], ◌∷◌, length, refl, ◌∙◌}
-use Rattle.std.specs.Prelude.{Some, None}
-use Rattle.std.specs.List.{list_all}
-use Rattle.std.specs.Map.{lookup}
-use Rattle.std.proofs.lemmas.Bool.{and_parts, cond-false, leb-true}
-use Rattle.pac_table_names.specs.Names.{is_written}
-use Rattle.pac_table_names.proofs.Longer.{not-longer}
-use Rattle.pac_asm_operation.specs.Directives.{directive_names, directive_of}
+use Rattle.pac_asm_operation.proofs.Common.{List, None, Some, [], and_parts, cond-false, directive_names, directive_of, is_written}
+use Rattle.pac_asm_operation.proofs.Common.{leb-true, length, list_all, lookup, nat_le, not-longer, refl, true, ℕ, ◌<◌, ◌∙◌, ◌∷◌, ◌≡◌}
 
 none-longer : {X : Type 0} (word : List ℕ) (most : ℕ) (es : List (List ℕ × X)) →
     list_all (λ e. nat_le (length e.0) most) es ≡ true → most < length word → lookup (is_written word) es ≡ None

@@ -1,13 +1,7 @@
 -- The operands of a list of parts.
-use Rattle.std.proofs.Common.{ℕ, ◌+◌, ◌<◌, List, [], ◌∷◌, length, arith, rules}
-use Rattle.std.specs.Prelude.{Option, Some, IfSome, option_map}
-use Rattle.std.specs.Option.{option_and_then}
-use Rattle.std.specs.List.{slice_split}
-use Rattle.std.proofs.lemmas.List.Splits.{length-slice_split}
-use Rattle.pac_lex.specs.Tokens.{Lexeme}
-use Rattle.pac_expr.specs.Trees.{Tree}
-use Rattle.pac_asm_operation.specs.declared.operand.Operand.{Operand}
-use Rattle.pac_asm_operation.specs.Operands.{is_comma, operand_of, operands_of_parts}
+use Rattle.pac_asm_operation.proofs.Common.{IfSome, Lexeme, List, Operand, Option, Some, Tree, [], arith, is_comma, length}
+use Rattle.pac_asm_operation.proofs.Common.{length-slice_split, operand_of, operands_of_parts, option_and_then, option_map, rules}
+use Rattle.pac_asm_operation.proofs.Common.{slice_split, ℕ, ◌+◌, ◌<◌, ◌∷◌}
 
 abbrev pub AreMore : ℕ → Option (List (Operand Tree)) → Type 0
 AreMore n operands = IfSome operands (λ all. n < length all)

@@ -1,18 +1,8 @@
 -- The rows with a name, asked one by one, against the search of the whole table.
-use Rattle.std.proofs.lemmas.Grind.{common_steps}
-use Rattle.std.proofs.Common.{◌≡◌, ℕ, suc, ◌+◌, ◌<◌, Bool, true, if◌then◌else◌, []}
-use Rattle.std.proofs.Common.{List, ◌∷◌, length, drop, get_or, find, refl, sym, ◌∙◌, ap, arith, inl, inr, rules}
-use Rattle.std.specs.Prelude.{Option, Some, None, is_some, option_map, position}
-use Rattle.std.specs.List.{All}
-use Rattle.std.proofs.lemmas.List.{get_or_default}
-use Rattle.std.proofs.lemmas.Bool.{cases_Bool, cond-true, cond-false}
-use Rattle.std.proofs.lemmas.List.Elements.{All-head, All-tail}
-use Rattle.pac_lemmas.proofs.Searches.{position-cons}
-use Rattle.pac_table.specs.declared.table.Row.{Row}
-use Rattle.pac_table.specs.Table.{table}
-use Rattle.pac_table.specs.Instructions.{row_at}
-use Rattle.pac_table_names.specs.Names.{value_named}
-use Rattle.pac_table_names.specs.ByName.{rows_named_from, rows_named}
+use Rattle.pac_asm_operation.proofs.Common.{All, All-head, All-tail, Bool, List, None, Option, Row, Some, [], ap, arith, cases_Bool}
+use Rattle.pac_asm_operation.proofs.Common.{common_steps, cond-false, cond-true, drop, find, get_or, get_or_default, if◌then◌else◌, inl}
+use Rattle.pac_asm_operation.proofs.Common.{inr, is_some, length, option_map, position, position-cons, refl, row_at, rows_named}
+use Rattle.pac_asm_operation.proofs.Common.{rows_named_from, rules, suc, sym, table, true, value_named, ℕ, ◌+◌, ◌<◌, ◌∙◌, ◌∷◌, ◌≡◌}
 
 -- ---- the rows with a name
 

@@ -1,17 +1,10 @@
 -- Items that share no address lie in their ROM, and where no item lies it holds 0.
-use Rattle.std.proofs.Common.{◌≡◌, ℕ, ◌+◌, ◌-◌, ◌<◌, true, false, List, [], ◌∷◌, length, map, get_or, take, drop, ap}
-use Rattle.std.proofs.Common.{sym, ◌∙◌, arith, ⊎_elim, zero, suc, refl}
-use Rattle.std.specs.List.{All}
-use Rattle.std.specs.List.{range_with_len, slice_index}
-use Rattle.std.proofs.lemmas.Bool.{cases_Bool, true≢false, cond-true, cond-false, lt-ltb, le-leb, and_from}
-use Rattle.std.proofs.lemmas.List.{get_or-take, get_or-drop, length-take-le, length-drop, ext_get_or}
-use Rattle.std.proofs.lemmas.List.FromFn.{get_or-map-range_with_len, length-map-range_with_len}
-use Rattle.pac_code.specs.Items.{Item, bytes_of}
-use Rattle.pac_asm_program.specs.Programs.{rom_size}
-use Rattle.std.proofs.lemmas.List.Elements.{All-head, All-tail}
-use Rattle.pac_asm_program.specs.Rom.{covers, rom_byte_at, rom_of}
-use Rattle.pac_asm_program.specs.RomLaws.{AreApart, ApartItemsLie}
-use Rattle.pac_asm_program.specs.RomProofs.{IsZeroElsewhere}
+use Rattle.pac_asm_program.proofs.Common.{All, All-head, All-tail, ApartItemsLie, AreApart, IsZeroElsewhere, Item, List, [], and_from, ap}
+use Rattle.pac_asm_program.proofs.Common.{arith, bytes_of, cases_Bool, cond-false, cond-true, covers, drop, ext_get_or, false, get_or}
+use Rattle.pac_asm_program.proofs.Common.{get_or-drop, get_or-map-range_with_len, get_or-take, le-leb, length, length-drop}
+use Rattle.pac_asm_program.proofs.Common.{length-map-range_with_len, length-take-le, lt-ltb, map, range_with_len, refl, rom_byte_at, rom_of}
+use Rattle.pac_asm_program.proofs.Common.{rom_size, slice_index, suc, sym, take, true, true≢false, zero, ℕ, ⊎_elim, ◌+◌, ◌-◌, ◌<◌, ◌∙◌, ◌∷◌}
+use Rattle.pac_asm_program.proofs.Common.{◌≡◌}
 
 -- the byte at an address is that of the item that covers it
 byte-is : (items : List Item) → AreApart items → (k : ℕ) (d : Item) → k < length items → (cell : ℕ)

@@ -1,8 +1,5 @@
 -- A hasher that takes bytes in two parts has taken them all.
-use Rattle.std.proofs.Common.{◌≡◌, ℕ, List, [], ◌++◌, refl}
-use Rattle.std.specs.Hash.DefaultHasher.{write, write_byte}
-use Rattle.std.specs.declared.hash.DefaultHasher.{DefaultHasher}
-use Rattle.std.proofs.lemmas.List.Sums.{fold-append}
+use Rattle.pac_asm_program.proofs.Common.{DefaultHasher, List, [], fold-append, refl, write, write_byte, ℕ, ◌++◌, ◌≡◌}
 
 pub both_written : (hasher : DefaultHasher) (first second : List ℕ) → write hasher (first ++ second) ≡ write (write hasher first) second
 unfolding write

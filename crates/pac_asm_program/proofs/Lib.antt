@@ -1,3 +1,4 @@
+pub mod Common
 mod Seen
 mod WrittenOver
 mod Apart

@@ -1,11 +1,8 @@
 -- Symbols as their map holds them, under keys that have the names' bytes.
-use Rattle.std.proofs.Common.{◌≡◌, ℕ, true, false, cond, List, [], ◌∷◌, ◌++◌, map, ℤ, None, Some, refl}
-use Rattle.std.proofs.Common.{ap, sym, ◌∙◌}
-use Rattle.std.specs.Prelude.{bytes_eq, if◌then◌else◌, is_some}
-use Rattle.std.specs.Map.{lookup, keys_of}
-use Rattle.std.specs.List.{IsDistinct, AllByRecursion}
-use Rattle.pac_asm_program.specs.Names.{Symbol, number_of_symbol, with_symbol}
-use Rattle.pac_asm_program.specs.NamesProofs.{AreDistinct}
+use Rattle.pac_asm_program.proofs.Common.{AllByRecursion, AreDistinct, IsDistinct, List, None, Some, Symbol, [], ap, bytes_eq, cond, false}
+use Rattle.pac_asm_program.proofs.Common.{if◌then◌else◌, keys_of, lookup, map, number_of_symbol, refl, sym, true, with_symbol, ℕ, ℤ, ◌++◌}
+use Rattle.pac_asm_program.proofs.Common.{◌∙◌, ◌∷◌, ◌≡◌}
+use Rattle.std.specs.Prelude.{is_some}
 
 module _ {K : Type 0} (name_of : K → List ℕ) where
   -- the names and their numbers

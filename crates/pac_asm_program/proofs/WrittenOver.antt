@@ -1,14 +1,10 @@
 -- Bytes written over a ROM, item by item from the last to the first.
-use Rattle.std.proofs.Common.{◌≡◌, ℕ, ◌+◌, ◌-◌, ◌<◌, ◌≤◌, List, [], ◌∷◌, length, map, get_or, ap}
-use Rattle.std.proofs.Common.{sym, ◌∙◌, arith, leb, ⊎_elim, replicate}
-use Rattle.std.specs.List.{range_with_len, slice_index}
-use Rattle.std.proofs.lemmas.Bool.{cond-true, cond-false, lt-ltb, le-ltb, le-leb, lt-leb, and_from, and_right, and_left, cases_lt}
-use Rattle.std.proofs.lemmas.List.{length-replicate, get_or-replicate}
-use Rattle.std.proofs.lemmas.List.FromFn.{fill_by_all, get_or-map-range_with_len, length-map-range_with_len}
-use Rattle.pac_lemmas.proofs.Lists.{get_or-before-put_mid, get_or-after-put_mid, get_or-in-put_mid, length-put_mid}
-use Rattle.pac_code.specs.Items.{Item, bytes_of}
-use Rattle.pac_asm_program.specs.Programs.{rom_size}
-use Rattle.pac_asm_program.specs.Rom.{byte_over, rom_byte_at, rom_of}
+use Rattle.pac_asm_program.proofs.Common.{Item, List, [], and_from, and_left, and_right, ap, arith, byte_over, bytes_of, cases_lt}
+use Rattle.pac_asm_program.proofs.Common.{cond-false, cond-true, fill_by_all, get_or, get_or-after-put_mid, get_or-before-put_mid}
+use Rattle.pac_asm_program.proofs.Common.{get_or-in-put_mid, get_or-map-range_with_len, get_or-replicate, le-leb, le-ltb, leb, length}
+use Rattle.pac_asm_program.proofs.Common.{length-map-range_with_len, length-put_mid, length-replicate, lt-leb, lt-ltb, map, range_with_len}
+use Rattle.pac_asm_program.proofs.Common.{replicate, rom_byte_at, rom_of, rom_size, slice_index, sym, ℕ, ⊎_elim, ◌+◌, ◌-◌, ◌<◌, ◌∙◌, ◌∷◌}
+use Rattle.pac_asm_program.proofs.Common.{◌≡◌, ◌≤◌}
 use borrow.Rule.Slice.PartMut.{put_mid}
 
 -- an item's byte, where it covers the address and where it doesn't

@@ -1,14 +1,7 @@
 -- Blocks whose fronts are written over.
-use Rattle.std.proofs.Common.{◌≡◌, ℕ, List, ◌++◌, length, drop, sym, ap, subst, ◌∙◌}
-use Rattle.pac_board.specs.State.{BoardState, BoardValue}
-use Rattle.pac_state.specs.Block.{block_text, IsBlock}
-use Rattle.pac_state.specs.Files.{IsState}
-use Rattle.pac_state.specs.Reading.{state_in}
-use Rattle.pac_state.specs.Saved.{file_size}
-use Rattle.pac_state.proofs.Framing.{block-again, is-block}
-use Rattle.pac_state.proofs.Fronts.{front-changed}
-use Rattle.pac_block.specs.Handed.{HasFront}
-use Rattle.pac_block.specs.Host.{IsBlockOf, HasBecome, board_in}
+use Rattle.pac_block.proofs.Common.{BoardState, BoardValue, HasBecome, HasFront, IsBlock, IsBlockOf, IsState, List, ap, block-again}
+use Rattle.pac_block.proofs.Common.{block_text, board_in, drop, file_size, front-changed, is-block, length, state_in, subst, sym, ℕ, ◌++◌}
+use Rattle.pac_block.proofs.Common.{◌∙◌, ◌≡◌}
 
 -- the text of a state is its block
 pub block-of : (state : BoardState) (new : List ℕ) → IsState state → new ≡ block_text state → IsBlockOf state new

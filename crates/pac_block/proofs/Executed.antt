@@ -1,18 +1,8 @@
 -- A call for some time, put together from what its parts say.
-use Rattle.std.proofs.Common.{◌≡◌, ◌≤◌, ◌<◌, ◌+◌, ◌-◌, ◌^◌, min, ℕ, ℤ, List, ◌++◌, length, drop, Ok, Err, subst, rules}
-use Rattle.pac_board.specs.RomParts.{Parts}
-use Rattle.pac_board.specs.Calls.{course, outputs_given, run_ticks}
-use Rattle.pac_board.specs.Output.{sound_count, picture_count}
-use Rattle.pac_board.specs.State.{BoardState, BoardValue, most_asked}
-use Rattle.pac_state.specs.Block.{IsBlock}
-use Rattle.pac_state.specs.Reading.{state_in}
-use Rattle.pac_block.specs.declared.codes.HostFault.{HostFault}
-use Rattle.pac_block.specs.declared.codes.HostFault.TheVariants.{TooLong, NoRoom}
-use Rattle.pac_block.specs.declared.ran.PacRan.{PacRan}
-use Rattle.pac_block.specs.Codes.{ran_of}
-use Rattle.pac_block.specs.Handed.{MayRun}
-use Rattle.pac_block.specs.Host.{roms_size, set_of_roms, board_in, board_after_exec, IsBlockOf, samples_given, most_samples}
-use Rattle.pac_block.specs.Host.{HasExecuted, ExecFails}
+use Rattle.pac_block.proofs.Common.{BoardState, BoardValue, Err, ExecFails, HasExecuted, HostFault, IsBlock, IsBlockOf, List, MayRun}
+use Rattle.pac_block.proofs.Common.{NoRoom, Ok, PacRan, Parts, TooLong, board_after_exec, board_in, course, drop, length, min, most_asked}
+use Rattle.pac_block.proofs.Common.{most_samples, outputs_given, picture_count, ran_of, roms_size, rules, run_ticks, samples_given}
+use Rattle.pac_block.proofs.Common.{set_of_roms, sound_count, state_in, subst, ℕ, ℤ, ◌++◌, ◌+◌, ◌-◌, ◌<◌, ◌^◌, ◌≡◌, ◌≤◌}
 
 -- what a run of a board leaves of block and buffer, and what is told
 record Leaves (microseconds : ℕ) (samples : List ℤ) (new : List ℕ) (after : List ℤ) (ran : PacRan) (board : BoardValue) : Type 0 where

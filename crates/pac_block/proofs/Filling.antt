@@ -1,10 +1,7 @@
 -- A buffer of a text's size has that text, once it is written.
-use Rattle.std.proofs.Common.{◌≡◌, ℕ, List, length, Result, arith}
-use Rattle.std.proofs.lemmas.List.{take_all, length-take-le}
-use Rattle.pac_out.specs.declared.WriteFault.{WriteFault}
-use Rattle.pac_state.specs.Saves.{Saves}
-use Rattle.pac_out.specs.Buffers.{buffer_took, buffer_refused}
-use Rattle.pac_out.specs.declared.buffer.HostBuffer.{HostBuffer}
+use Rattle.pac_block.proofs.Common.{HostBuffer, List, Result, Saves, WriteFault, arith, buffer_refused, buffer_took, length, length-take-le}
+use Rattle.pac_block.proofs.Common.{ℕ, ◌≡◌}
+use Rattle.std.proofs.lemmas.List.{take_all}
 
 -- there is room for all of it, so nothing is refused
 pub filled : {A : Type 0} (text : List ℕ) (result : Result A WriteFault) (old new : HostBuffer) (left : List ℕ) → old.taken ≡ 0

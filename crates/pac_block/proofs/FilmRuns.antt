@@ -1,17 +1,8 @@
 -- A run, frame by frame, and a board between two frames of it.
-use Rattle.std.proofs.Common.{◌≡◌, ◌≤◌, ◌<◌, ℕ, zero, suc, ◌+◌, ◌*◌, ◌++◌, rules, Option, None, Some, refl, sym, ap, ◌∙◌, arith}
-use Rattle.pac_board.specs.BoardView.{BoardView, board_after, power_on_board_view}
-use Rattle.pac_board.specs.Calls.{course}
-use Rattle.pac_board.specs.Entry.{Hold}
-use Rattle.pac_board.specs.ModelLaws.{next_frame, with_frame}
-use Rattle.pac_board.specs.RomParts.{Parts}
-use Rattle.pac_board.specs.State.{BoardState, nothing_due}
-use Rattle.pac_board.specs.Step.{Moment, step, frame_ticks}
-use Rattle.pac_board.specs.Stop.{Stop}
-use Rattle.pac_board.specs.Trace.{by_view, power_on_moment, trace, frame_steps}
-use Rattle.pac_board.specs.Walk.{Walk, walk_to}
-use Rattle.pac_board_model.proofs.Runs.{runs-end, runs-go-by-frames, walk-near}
-use Rattle.pac_board_model.proofs.Walks.{open-is-late, play-timely, step-timely, walk-to-ends}
+use Rattle.pac_block.proofs.Common.{BoardState, BoardView, Hold, Moment, None, Option, Parts, Some, Stop, Walk, ap, arith, board_after}
+use Rattle.pac_block.proofs.Common.{by_view, course, frame_steps, frame_ticks, next_frame, nothing_due, open-is-late, play-timely}
+use Rattle.pac_block.proofs.Common.{power_on_board_view, power_on_moment, refl, rules, runs-end, runs-go-by-frames, step, step-timely, suc}
+use Rattle.pac_block.proofs.Common.{sym, trace, walk-near, walk-to-ends, walk_to, with_frame, zero, ℕ, ◌*◌, ◌++◌, ◌+◌, ◌<◌, ◌∙◌, ◌≡◌, ◌≤◌}
 use Rattle.pac_block.proofs.FrameWalks.{ShowsFrame, walk-shows}
 
 -- ---- the run, frame by frame

@@ -1,28 +1,13 @@
 -- A host that plays a script frame by frame hears and sees the script's trace.
-use Rattle.std.proofs.Common.{◌≡◌, ◌≤◌, ℕ, ℤ, zero, suc, ◌+◌, ◌*◌, List, [], ◌∷◌, ◌++◌, rules, map, length, drop, Option, None, Some}
-use Rattle.std.proofs.Common.{Result, Ok, refl, sym, ap, subst, ◌∙◌, append_assoc, arith}
-use Rattle.std.proofs.lemmas.List.{length-drop, length-take-le, map-append}
-use Rattle.std.specs.Int.Bits.{bit_or, and_zero_r, or_zero_l}
-use Rattle.pac_board.specs.BoardView.{BoardView, board_after}
-use Rattle.pac_board.specs.Entry.{Hold}
-use Rattle.pac_board.specs.MemoryView.{held_with, held_without}
-use Rattle.pac_board.specs.Output.{Image, image_of, picture_count}
-use Rattle.pac_board.specs.RomParts.{Parts, IsWhole, program_size, tiles_size, sprites_size}
-use Rattle.pac_board.specs.RomParts.{colour_prom_size, lookup_prom_size, wave_prom_size}
-use Rattle.pac_board.specs.State.{BoardState, nothing_due}
-use Rattle.pac_board.specs.Step.{step, frame_ticks}
-use Rattle.pac_board.specs.Stop.{Stop}
-use Rattle.pac_board.specs.Trace.{by_view, frame_steps}
-use Rattle.pac_board.specs.Walk.{Walk}
-use Rattle.pac_board_model.proofs.Agreed.{runs-agree}
-use Rattle.pac_board_model.proofs.Walks.{stopped-is-early}
-use Rattle.pac_state.specs.Reading.{bytes_at_place, state_in}
-use Rattle.pac_block.specs.declared.codes.HostFault.{HostFault}
-use Rattle.pac_block.specs.declared.ran.PacRan.{PacRan}
-use Rattle.pac_block.specs.Codes.{Answers, code_of}
-use Rattle.pac_block.specs.Films.{HostsPlayTheFilm, ran_read}
-use Rattle.pac_block.specs.Films.{Player, IsHostFrame, FollowedBy, PlaysFrames, heard, seen, seen_if, pictures_given, rgba_of_image}
-use Rattle.pac_block.specs.Host.{roms_size, set_of_roms, asked_left, board_holding, board_after_exec, samples_given, HasBecome, TellsRun}
+use Rattle.pac_block.proofs.Common.{Answers, BoardState, BoardView, FollowedBy, HasBecome, Hold, HostFault, HostsPlayTheFilm, Image}
+use Rattle.pac_block.proofs.Common.{IsHostFrame, IsWhole, List, None, Ok, Option, PacRan, Parts, Player, PlaysFrames, Result, Some, Stop}
+use Rattle.pac_block.proofs.Common.{TellsRun, Walk, [], and_zero_r, ap, append_assoc, arith, asked_left, bit_or, board_after}
+use Rattle.pac_block.proofs.Common.{board_after_exec, board_holding, by_view, bytes_at_place, code_of, colour_prom_size, drop, frame_steps}
+use Rattle.pac_block.proofs.Common.{frame_ticks, heard, held_with, held_without, image_of, length, length-drop, length-take-le}
+use Rattle.pac_block.proofs.Common.{lookup_prom_size, map, map-append, nothing_due, or_zero_l, picture_count, pictures_given, program_size}
+use Rattle.pac_block.proofs.Common.{ran_read, refl, rgba_of_image, roms_size, rules, runs-agree, samples_given, seen, seen_if, set_of_roms}
+use Rattle.pac_block.proofs.Common.{sprites_size, state_in, step, stopped-is-early, subst, suc, sym, tiles_size, wave_prom_size, zero, ℕ, ℤ}
+use Rattle.pac_block.proofs.Common.{◌*◌, ◌++◌, ◌+◌, ◌∙◌, ◌∷◌, ◌≡◌, ◌≤◌}
 use Rattle.pac_block.proofs.FrameWalks.{pictures-joined, as-many-pictures}
 use Rattle.pac_block.proofs.Sounding.{samples-append}
 use Rattle.pac_block.proofs.Told.{ran-is-read}

@@ -1,14 +1,8 @@
 -- A walk to the end of a frame gives one picture: the one that the board still shows where the walk ends.
-use Rattle.std.proofs.Common.{◌≡◌, ◌≤◌, ◌<◌, ℕ, suc, ◌+◌, ◌*◌, true, List, [], ◌∷◌, ◌++◌, length, refl, ap, append_assoc, arith, rules}
-use Rattle.pac_board.specs.BoardView.{BoardView, board_after}
-use Rattle.pac_board.specs.Entry.{Entry}
-use Rattle.pac_board.specs.Output.{Output, Sound, Show, image_of, picture_count}
-use Rattle.pac_board.specs.RomParts.{Parts}
-use Rattle.pac_board.specs.Step.{Moment, StepProgress, sample_event, line_event, blank_event, at_moment, step, frame_ticks}
-use Rattle.pac_board.specs.Trace.{by_view}
-use Rattle.pac_board.specs.Walk.{walk}
-use Rattle.pac_board_model.proofs.RunsKeep.{is_quiet, sampled-holds, blanked-holds, plain-walk-told}
-use Rattle.pac_block.specs.Films.{pictures_given}
+use Rattle.pac_block.proofs.Common.{BoardView, Entry, List, Moment, Output, Parts, Show, Sound, StepProgress, [], ap, append_assoc, arith}
+use Rattle.pac_block.proofs.Common.{at_moment, blank_event, blanked-holds, board_after, by_view, frame_ticks, image_of, is_quiet, length}
+use Rattle.pac_block.proofs.Common.{line_event, picture_count, pictures_given, plain-walk-told, refl, rules, sample_event, sampled-holds}
+use Rattle.pac_block.proofs.Common.{step, suc, true, walk, ℕ, ◌*◌, ◌++◌, ◌+◌, ◌<◌, ◌∷◌, ◌≡◌, ◌≤◌}
 
 -- ---- pictures among outputs
 

@@ -1,15 +1,9 @@
 -- No call of a host that plays frame by frame fails.
-use Rattle.std.proofs.Common.{◌≡◌, ◌≢◌, ◌≤◌, ◌+◌, ℕ, ℤ, List, length, Result, Ok, Err, rules, ◌⊎◌, inl, inr, refl, sym, ap, subst, arith}
-use Rattle.pac_board.specs.State.{BoardState, most_asked}
-use Rattle.pac_state.specs.Block.{IsBlock}
-use Rattle.pac_state.specs.Reading.{state_in}
-use Rattle.pac_block.specs.declared.codes.HostFault.{HostFault}
-use Rattle.pac_block.specs.declared.codes.HostFault.TheVariants.{WrongLength, NoBoard, TooLong, NoRoom, NoFile, Closed}
-use Rattle.pac_block.specs.Codes.{code_of}
-use Rattle.pac_block.specs.Films.{Player, FrameCalls, HasRoom, IsBetweenFrames, IsFrameAnswered, AllFramesAreDone, all_inputs}
-use Rattle.pac_block.specs.Host.{roms_size, board_in, asked_in, board_holding, most_samples, room_of, rgba_size}
-use Rattle.pac_block.specs.Host.{Becomes, ExecFails, Execs, Draws}
-use Rattle.pac_block.specs.HostLaws.{IsNotBehind}
+use Rattle.pac_block.proofs.Common.{AllFramesAreDone, Becomes, BoardState, Closed, Draws, Err, ExecFails, Execs, FrameCalls, HasRoom}
+use Rattle.pac_block.proofs.Common.{HostFault, IsBetweenFrames, IsBlock, IsFrameAnswered, IsNotBehind, List, NoBoard, NoFile, NoRoom, Ok}
+use Rattle.pac_block.proofs.Common.{Player, Result, TooLong, WrongLength, all_inputs, ap, arith, asked_in, board_holding, board_in, code_of}
+use Rattle.pac_block.proofs.Common.{inl, inr, length, most_asked, most_samples, refl, rgba_size, roms_size, room_of, rules, state_in, subst}
+use Rattle.pac_block.proofs.Common.{sym, ℕ, ℤ, ◌+◌, ◌≡◌, ◌≢◌, ◌≤◌, ◌⊎◌}
 use Rattle.pac_block.proofs.Films.{was-done}
 use Rattle.pac_block.proofs.Stops.{left-not-behind}
 use Rattle.pac_block.proofs.TimeParts.{room-bounded}

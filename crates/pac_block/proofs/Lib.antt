@@ -1,3 +1,4 @@
+pub mod Common
 pub mod Executed
 pub mod Filling
 pub mod FrameWalks

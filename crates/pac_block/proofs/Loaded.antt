@@ -1,21 +1,8 @@
 -- The block of a file's board.
-use Rattle.std.proofs.Common.{◌≡◌, ◌<◌, ◌==◌, ℕ, Bool, true, false, if◌then◌else◌, rules}
-use Rattle.std.proofs.Common.{List, length, get_or, Ok, Err, refl, ap, subst, ◌∙◌, arith}
-use Rattle.pac_board.specs.BoardFields.{Fields}
-use Rattle.pac_board.specs.Fields.{state_of}
-use Rattle.pac_board.specs.RomParts.{Parts}
-use Rattle.pac_board.specs.State.{BoardState, BoardValue}
-use Rattle.pac_state.specs.declared.fault.LoadFault.{LoadFault}
-use Rattle.pac_state.specs.Block.{block_text}
-use Rattle.pac_state.specs.Files.{IsState}
-use Rattle.pac_state.specs.Reading.{state_in}
-use Rattle.pac_state.specs.Saved.{upgraded_board, version_in}
-use Rattle.pac_state.specs.SavedLaws.{loaded_board}
-use Rattle.pac_state.specs.SavedProofs.{FindsFields}
-use Rattle.pac_state.proofs.Files.{accepts}
-use Rattle.pac_block.specs.declared.codes.HostFault.TheVariants.{NoFile}
-use Rattle.pac_block.specs.Host.{roms_size, set_of_roms, IsBlockOf, HasLoaded, LoadFails}
-use Rattle.pac_block.specs.Passed.{recomposed_state, upgraded_state}
+use Rattle.pac_block.proofs.Common.{BoardState, BoardValue, Bool, Err, Fields, FindsFields, HasLoaded, IsBlockOf, IsState, List, LoadFails}
+use Rattle.pac_block.proofs.Common.{LoadFault, NoFile, Ok, Parts, accepts, ap, arith, block_text, false, get_or, if◌then◌else◌, length}
+use Rattle.pac_block.proofs.Common.{loaded_board, recomposed_state, refl, roms_size, rules, set_of_roms, state_in, state_of, subst, true}
+use Rattle.pac_block.proofs.Common.{upgraded_board, upgraded_state, version_in, ℕ, ◌<◌, ◌==◌, ◌∙◌, ◌≡◌}
 use Rattle.pac_block.proofs.Becoming.{block-of}
 use Rattle.pac_block.proofs.Recomposing.{recomposed-is-state}
 

@@ -1,11 +1,7 @@
 -- The calls on a host's blocks are the calls of one board, whose count of steps is all that its blocks don't keep.
-use Rattle.std.proofs.Common.{◌≡◌, ℕ, ◌==◌, Bool, if◌then◌else◌, List, [], ◌∷◌, refl, ap, ◌∙◌, rules}
-use Rattle.pac_board.specs.State.{BoardState, BoardValue}
-use Rattle.pac_state.specs.Files.{IsFile, board_of_file}
-use Rattle.pac_state.specs.Reading.{state_in}
-use Rattle.pac_block.specs.Host.{board_after_exec, set_of_roms}
-use Rattle.pac_block.specs.HostLaws.{HostCall, PowerOn, LetTimePass, TakeFile}
-use Rattle.pac_block.specs.HostLaws.{IsCallDone, AreDone, IsCallOfBoard, AreCallsOfBoard, BlocksAreOneBoard}
+use Rattle.pac_block.proofs.Common.{AreCallsOfBoard, AreDone, BlocksAreOneBoard, BoardState, BoardValue, Bool, HostCall, IsCallDone}
+use Rattle.pac_block.proofs.Common.{IsCallOfBoard, IsFile, LetTimePass, List, PowerOn, TakeFile, [], ap, board_after_exec, board_of_file}
+use Rattle.pac_block.proofs.Common.{if◌then◌else◌, refl, rules, set_of_roms, state_in, ℕ, ◌==◌, ◌∙◌, ◌∷◌, ◌≡◌}
 
 -- the board of these ROMs in this state, which counted so many steps
 abbrev kept : List ℕ → BoardState → ℕ → BoardValue

@@ -1,14 +1,9 @@
 -- A microsecond has at most four T-states, as many as each step takes at least.
-use Rattle.std.proofs.Common.{◌≤◌, ℕ, ◌+◌, Bool, nat_le, None, ap, sym, subst, ◌∙◌, arith, rules}
-use Rattle.pac_board_model.specs.Laws.{IsTimely}
+use Rattle.pac_block.proofs.Common.{BoardState, Bool, IsTimely, None, OneStepAtMost, ap, arith, ended-whole, nat_le, onward_if, rules}
+use Rattle.pac_block.proofs.Common.{set_of_roms, state_in, step-timely, subst, sym, time_of, walk-ends, ℕ, ◌+◌, ◌∙◌, ◌≤◌}
 use Rattle.pac_board_model.specs.Step.{Moment, Next, step}
 use Rattle.pac_board_model.specs.Trace.{by_view}
-use Rattle.pac_board_model.specs.Walk.{onward_if, walk_at_start}
-use Rattle.pac_board_model.proofs.Walks.{ended-whole, step-timely, walk-ends}
-use Rattle.pac_board.specs.State.{BoardState, time_of}
-use Rattle.pac_state.specs.Reading.{state_in}
-use Rattle.pac_block.specs.Host.{set_of_roms}
-use Rattle.pac_block.specs.HostLaws.{OneStepAtMost}
+use Rattle.pac_board_model.specs.Walk.{walk_at_start}
 
 first-counted : {Board : Type 0} (next : Moment Board → Next Board) (now : Moment Board) (late : Bool) → IsTimely now (next now)
     → (onward_if next (walk_at_start now) None late).now.steps ≤ now.steps + 1

@@ -1,22 +1,11 @@
 -- Lines of the picture in a block that are composed again, from the top.
-use Rattle.std.proofs.Common.{◌≡◌, ◌<◌, ◌≤◌, ℕ, zero, suc, ◌+◌, ◌*◌, List, [], ◌∷◌, ◌++◌, length, get_or, take, drop}
-use Rattle.std.proofs.Common.{refl, sym, ap, subst, ◌∙◌, arith, append_assoc, rules}
-use Rattle.std.proofs.Math.Seq.{take-append_seam, drop-append_seam, drop-cons}
-use Rattle.std.proofs.lemmas.Grind.{flat_map-append, common_steps}
-use Rattle.std.proofs.lemmas.Bool.{cases_lt}
-use Rattle.std.proofs.lemmas.List.{length-append, drop-drop, length-drop, get_or_append_left, get_or-append_right, get_or-drop}
-use Rattle.pac_num.proofs.Tabulated.{length-tabulate, get_or-tabulate}
-use Rattle.pac_num.specs.Tabulate.{tabulate}
-use Rattle.pac_board.specs.PictureState.{IsPicture}
-use Rattle.pac_board.specs.State.{BoardState}
-use Rattle.pac_out.specs.Pieces.{joined_pieces}
-use Rattle.pac_picture.specs.Picture.{VideoRoms, VideoMemory, picture_line}
-use Rattle.pac_picture.proofs.Composed.{picture-is, line-below, length-line_of}
-use Rattle.pac_state.specs.Block.{block_text, no_digest}
-use Rattle.pac_state.specs.Files.{IsState}
-use Rattle.pac_state.specs.Text.{head, ram, devices, file_front, written_version}
-use Rattle.pac_state.proofs.Written.{length-front}
-use Rattle.pac_block.specs.Passed.{picture_offset, composed_lines, state_with_lines}
+use Rattle.pac_block.proofs.Common.{BoardState, IsPicture, IsState, List, VideoMemory, VideoRoms, [], ap, append_assoc, arith, block_text}
+use Rattle.pac_block.proofs.Common.{cases_lt, common_steps, composed_lines, devices, drop, drop-append_seam, drop-cons, drop-drop}
+use Rattle.pac_block.proofs.Common.{file_front, flat_map-append, get_or, get_or-append_right, get_or-drop, get_or-tabulate}
+use Rattle.pac_block.proofs.Common.{get_or_append_left, head, joined_pieces, length, length-append, length-drop, length-front}
+use Rattle.pac_block.proofs.Common.{length-line_of, length-tabulate, line-below, no_digest, picture-is, picture_line, picture_offset, ram}
+use Rattle.pac_block.proofs.Common.{refl, rules, state_with_lines, subst, suc, sym, tabulate, take, take-append_seam, written_version, zero}
+use Rattle.pac_block.proofs.Common.{ℕ, ◌*◌, ◌++◌, ◌+◌, ◌<◌, ◌∙◌, ◌∷◌, ◌≡◌, ◌≤◌}
 
 -- ---- a picture composed from the top is one
 

@@ -1,9 +1,7 @@
 -- Room for samples, over lists of calls.
-use Rattle.std.proofs.Common.{◌≤◌, ℕ, List, [], ◌∷◌, subst, sym, arith}
-use Rattle.pac_state.specs.Reading.{state_in}
-use Rattle.pac_block.specs.Host.{most_samples, room_of}
-use Rattle.pac_block.specs.HostLaws.{HostCall, PowerOn, ResetNow, HoldInputs, LetTimePass, TakeFile, IsCallDone, IsNotBehind, RoomIsBounded}
-use Rattle.pac_block.specs.RoomLaws.{AreDoneOver, NoneTakesAFile, TakesNoFile, RoomIsEnough}
+use Rattle.pac_block.proofs.Common.{AreDoneOver, HoldInputs, HostCall, IsCallDone, IsNotBehind, LetTimePass, List, NoneTakesAFile, PowerOn}
+use Rattle.pac_block.proofs.Common.{ResetNow, RoomIsBounded, RoomIsEnough, TakeFile, TakesNoFile, [], arith, most_samples, room_of}
+use Rattle.pac_block.proofs.Common.{state_in, subst, sym, ℕ, ◌∷◌, ◌≤◌}
 
 module _ (bounded : RoomIsBounded) where
   -- a call leaves a board that isn't behind

@@ -1,24 +1,12 @@
 -- What a host's buffer has after the outputs of a run, and that none of them is refused where there is room.
-use Rattle.std.proofs.Common.{◌≡◌, ◌≤◌, ◌<◌, ℕ, ℤ, ◌+◌, ◌-◌, ◌/◌, ◌^◌, rules, min, List, [], ◌∷◌, ◌++◌, length, take, drop, Option, Err}
-use Rattle.std.proofs.Common.{Bool, refl, ap, ◌∙◌, length-set, arith}
-use Rattle.std.proofs.lemmas.Grind.{common_steps}
-use Rattle.std.proofs.lemmas.Bool.Decides.{nat_tests}
-use Rattle.std.proofs.lemmas.List.{take_more_set, drop-set-lt, take-append-drop}
-use Rattle.pac_board_model.specs.Laws.{IsWalkTimed}
+use Rattle.pac_block.proofs.Common.{BoardValue, Bool, Cut, Err, Executes, Fault, IsSameBuffer, IsWalkTimed, List, Option, Refused, Sounds}
+use Rattle.pac_block.proofs.Common.{TooFar, TookAll, [], ap, arith, by, common_steps, course_at, drop, drop-set-lt, due_outputs, due_with}
+use Rattle.pac_block.proofs.Common.{length, length-set, min, most_asked, most_samples, nat_tests, outputs_given, refl, rules, sample_ticks}
+use Rattle.pac_block.proofs.Common.{samples_due, samples_given, sounding_refused, sounding_took, take, take-append-drop, take_more_set}
+use Rattle.pac_block.proofs.Common.{time_of, walks-are-timed, ℕ, ℤ, ◌++◌, ◌+◌, ◌-◌, ◌/◌, ◌<◌, ◌^◌, ◌∙◌, ◌∷◌, ◌≡◌, ◌≤◌}
 use Rattle.pac_board_model.specs.Output.{Output, Sound, Show, Image, image_of, sound_count, picture_count}
-use Rattle.pac_board_model.specs.Step.{sample_ticks, frame_ticks}
+use Rattle.pac_board_model.specs.Step.{frame_ticks}
 use Rattle.pac_board_model.specs.Trace.{by_view}
-use Rattle.pac_board_model.proofs.WalkTimes.{walks-are-timed}
-use Rattle.pac_board.specs.CallsLaws.{Executes, course_at}
-use Rattle.pac_board.specs.Calls.{outputs_given}
-use Rattle.pac_board.specs.declared.fault.Fault.{Fault}
-use Rattle.pac_board.specs.declared.fault.Fault.TheVariants.{TooFar, Refused}
-use Rattle.pac_board.specs.SinksLaws.{by, Cut}
-use Rattle.pac_board.specs.Sinks.{TookAll}
-use Rattle.pac_board.specs.State.{BoardValue, due_with, due_outputs, most_asked, time_of}
-use Rattle.pac_block.specs.Host.{samples_given, samples_due, most_samples}
-use Rattle.pac_block.specs.Sounding.{IsSameBuffer, sounding_took, sounding_refused}
-use Rattle.pac_block.specs.declared.sounds.Sounds.{Sounds}
 
 -- ---- counts of lists that are put together
 

@@ -1,22 +1,10 @@
 -- A board that a stop has left: it isn't behind, and meets the stop again whatever time is asked of it.
-use Rattle.std.proofs.Common.{◌≡◌, ◌≤◌, ◌<◌, ℕ, suc, zero, ◌+◌, ◌-◌, [], ◌++◌, Option, None, Some, rules, refl, sym, ap, subst, ◌∙◌, arith}
-use Rattle.pac_board.specs.BoardView.{BoardView}
-use Rattle.pac_board.specs.Calls.{course, outputs_given, board_after_run, run_ticks}
-use Rattle.pac_board.specs.Laws.{TimeCanBeCut}
-use Rattle.pac_board.specs.State.{BoardState, BoardValue, nothing_due, time_of, steps_counted}
-use Rattle.pac_board.specs.Step.{Moment, Next, Goes, Ends, step}
-use Rattle.pac_board.specs.Stop.{Stop}
-use Rattle.pac_board.specs.Trace.{by_view}
-use Rattle.pac_board.specs.Walk.{Walk, walk, walk_to, walk_at_start, walk_after_step}
-use Rattle.pac_board_model.specs.Laws.{IsTimely}
-use Rattle.pac_board_model.specs.WalkLaws.{has_ended}
-use Rattle.pac_board_model.proofs.Walks.{ended-whole, goes-on, going-steps, open-goes-on, open-is-late, step-timely}
-use Rattle.pac_board_model.proofs.Walks.{stopped-is-early, walk-to-ends}
-use Rattle.pac_board.proofs.Walked.{walked-after}
-use Rattle.pac_block.specs.Handed.{StopsEarly}
-use Rattle.pac_block.specs.Host.{asked_left, board_after_exec, least_asked, state_left}
-use Rattle.pac_block.specs.HostLaws.{IsNotBehind}
-use Rattle.pac_state.specs.Files.{IsState}
+use Rattle.pac_block.proofs.Common.{BoardState, BoardValue, BoardView, Ends, Goes, IsNotBehind, IsState, IsTimely, Moment, Next, None}
+use Rattle.pac_block.proofs.Common.{Option, Some, Stop, StopsEarly, TimeCanBeCut, Walk, [], ap, arith, asked_left, board_after_exec}
+use Rattle.pac_block.proofs.Common.{board_after_run, by_view, course, ended-whole, goes-on, going-steps, has_ended, least_asked}
+use Rattle.pac_block.proofs.Common.{nothing_due, open-goes-on, open-is-late, outputs_given, refl, rules, run_ticks, state_left, step}
+use Rattle.pac_block.proofs.Common.{step-timely, steps_counted, stopped-is-early, subst, suc, sym, time_of, walk, walk-to-ends}
+use Rattle.pac_block.proofs.Common.{walk_after_step, walk_at_start, walk_to, walked-after, zero, ℕ, ◌++◌, ◌+◌, ◌-◌, ◌<◌, ◌∙◌, ◌≡◌, ◌≤◌}
 
 -- ---- walks
 

@@ -1,20 +1,10 @@
 -- Time of a host's board that is cut, and the room that it needs.
-use Rattle.std.proofs.Common.{◌≡◌, ◌≤◌, ℕ, ℤ, ◌+◌, ◌-◌, ◌*◌, ◌/◌, ◌==◌, Bool, true, false, if◌then◌else◌, rules}
-use Rattle.std.proofs.Common.{List, [], ◌∷◌, ◌++◌, take, drop, Option, None, Some, refl, sym, ap, subst, ◌∙◌, arith}
-use Rattle.pac_board.specs.Calls.{course, outputs_given, run_ticks}
-use Rattle.pac_board.specs.Laws.{TimeCanBeCut}
-use Rattle.pac_board.specs.BoardView.{BoardView}
-use Rattle.pac_board.specs.Output.{Output, Sound, Show, sound_count, picture_count}
-use Rattle.pac_board.specs.State.{BoardState, BoardValue}
-use Rattle.pac_board.specs.Stop.{Stop}
-use Rattle.pac_board.specs.Walk.{Walk}
-use Rattle.pac_state.specs.Block.{block_text}
-use Rattle.pac_state.specs.Reading.{state_in}
-use Rattle.pac_block.specs.declared.ran.PacRan.{PacRan}
-use Rattle.pac_block.specs.Codes.{ran_of}
-use Rattle.pac_block.specs.Host.{set_of_roms, board_after_exec, samples_given, most_samples, HasExecuted}
-use Rattle.pac_block.specs.HostLaws.{stop_told, HostTimeCanBeCut, StopsAreMetAgain, IsStoppedStill, RoomIsBounded, IsNotBehind, IsCallDone}
-use Rattle.pac_block.specs.HostLaws.{KeepsUp, HostCall, PowerOn, ResetNow, HoldInputs, LetTimePass, TakeFile}
+use Rattle.pac_block.proofs.Common.{BoardState, BoardValue, BoardView, Bool, HasExecuted, HoldInputs, HostCall, HostTimeCanBeCut}
+use Rattle.pac_block.proofs.Common.{IsCallDone, IsNotBehind, IsStoppedStill, KeepsUp, LetTimePass, List, None, Option, Output, PacRan}
+use Rattle.pac_block.proofs.Common.{PowerOn, ResetNow, RoomIsBounded, Show, Some, Sound, Stop, StopsAreMetAgain, TakeFile, TimeCanBeCut}
+use Rattle.pac_block.proofs.Common.{Walk, [], ap, arith, block_text, board_after_exec, course, drop, false, if◌then◌else◌, most_samples}
+use Rattle.pac_block.proofs.Common.{outputs_given, picture_count, ran_of, refl, rules, run_ticks, samples_given, set_of_roms, sound_count}
+use Rattle.pac_block.proofs.Common.{state_in, stop_told, subst, sym, take, true, ℕ, ℤ, ◌*◌, ◌++◌, ◌+◌, ◌-◌, ◌/◌, ◌==◌, ◌∙◌, ◌∷◌, ◌≡◌, ◌≤◌}
 use Rattle.pac_block.proofs.Sounding.{sounds-append, pictures-append, samples-append}
 use Rattle.pac_block.proofs.Stops.{left-again, left-in-parts, left-not-behind, stopped-again}
 

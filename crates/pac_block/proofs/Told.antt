@@ -1,14 +1,7 @@
 -- What a host reads in the bytes that tell of a call for some time is what was told.
-use Rattle.std.proofs.Common.{◌≡◌, ◌≤◌, ◌<◌, ◌+◌, ◌^◌, ℕ, ℤ, List, Option, sym, subst, ap, arith, rules}
-use Rattle.std.proofs.lemmas.Nat.{from_le_bytes-to_le_bytes_4}
-use Rattle.pac_board.specs.Calls.{course, outputs_given, run_ticks}
-use Rattle.pac_board.specs.Output.{sound_count, picture_count}
-use Rattle.pac_board.specs.State.{time_of}
-use Rattle.pac_board.specs.Stop.{Stop}
-use Rattle.pac_block.specs.declared.ran.PacRan.{PacRan}
-use Rattle.pac_block.specs.Codes.{ran_of, ran_bytes}
-use Rattle.pac_block.specs.Films.{ran_read}
-use Rattle.pac_block.specs.Host.{board_in, HasExecuted}
+use Rattle.pac_block.proofs.Common.{HasExecuted, List, Option, PacRan, Stop, ap, arith, board_in, course, from_le_bytes-to_le_bytes_4}
+use Rattle.pac_block.proofs.Common.{outputs_given, picture_count, ran_bytes, ran_of, ran_read, rules, run_ticks, sound_count, subst, sym}
+use Rattle.pac_block.proofs.Common.{time_of, ℕ, ℤ, ◌+◌, ◌<◌, ◌^◌, ◌≡◌, ◌≤◌}
 use Rattle.pac_block.proofs.Sounding.{sounds-bounded, pictures-bounded}
 use Rattle.pac_block.proofs.TimeParts.{tells}
 

@@ -1,15 +1,9 @@
 -- What colour numbers pick of a vector, vectors that are woven, and the pixels that come of both.
-use Rattle.std.proofs.Common.{◌≡◌, ◌<◌, ◌+◌, ◌++◌, ℕ, suc, List, [], ◌∷◌, length, get_or, map, take, drop, slice_index, refl, sym, ap, ◌∙◌}
-use Rattle.std.proofs.Common.{replicate, w8, arith}
-use Rattle.std.specs.List.{flat_map, range_with_len}
-use Rattle.std.proofs.lemmas.List.{get_or-map, length-map, ext_get_or}
-use Rattle.std.proofs.lemmas.Simd.{Each1-from_get_or, SwzOk, SwzOk-from_below, swz_l, length-swz_l, get_or-swz_l_below, pick_l_whole}
-use Rattle.std.proofs.lemmas.Grind.{flat_map-append, common_steps}
-use Rattle.std.proofs.Math.Seq.{take-add}
+use Rattle.pac_block.proofs.Common.{Each1-from_get_or, List, SwzOk, SwzOk-from_below, [], ap, arith, coloured, common_steps, drop}
+use Rattle.pac_block.proofs.Common.{ext_get_or, flat_map, flat_map-append, get_or, get_or-map, get_or-swz_l_below, get_or-tabulate, length}
+use Rattle.pac_block.proofs.Common.{length-map, length-swz_l, map, opaque_pixel, pick_l_whole, range_with_len, refl, replicate, slice_index}
+use Rattle.pac_block.proofs.Common.{suc, swz_l, sym, take, take-add, w8, woven, ℕ, ◌++◌, ◌+◌, ◌<◌, ◌∙◌, ◌∷◌, ◌≡◌}
 use lib.Lanes.{pick_l}
-use Rattle.pac_num.proofs.Tabulated.{get_or-tabulate}
-use Rattle.pac_block.specs.Host.{opaque_pixel}
-use Rattle.pac_block.specs.Woven.{coloured, woven}
 
 -- ---- what is picked
 

@@ -1,11 +1,7 @@
 -- A host's calls in two parts, and what is given again where a board goes back between them.
-use Rattle.std.proofs.Common.{◌≡◌, ℕ, true, false, List, [], ◌∷◌, ◌++◌, length, refl, sym, ap, subst, ◌∙◌, append_assoc}
-use Rattle.pac_board_model.specs.Output.{Output}
-use Rattle.pac_board_model.proofs.Walks.{not-both}
-use Rattle.pac_board.specs.SinksLaws.{Giving}
-use Rattle.pac_board.specs.State.{due_outputs}
-use Rattle.pac_board.specs.Hosts.{Call, Restore, PutFields, PutRoms, HostedBoard, AreCalls, goes_back, stays_within, steps_between}
-use Rattle.pac_board.specs.Hosts.{given_over, ListsAreCut, RestoresGiveAgain}
+use Rattle.pac_board.proofs.Common.{AreCalls, Call, Giving, HostedBoard, List, ListsAreCut, Output, PutFields, PutRoms, Restore}
+use Rattle.pac_board.proofs.Common.{RestoresGiveAgain, [], ap, append_assoc, due_outputs, false, given_over, goes_back, length, not-both}
+use Rattle.pac_board.proofs.Common.{refl, stays_within, steps_between, subst, sym, true, ℕ, ◌++◌, ◌∙◌, ◌∷◌, ◌≡◌}
 use Rattle.pac_board.proofs.Hosts.{all-stand}
 
 -- what never goes back stays within its history

@@ -1,34 +1,13 @@
 -- A host's calls that make steps bring a board where a walk of it is, and a walk's steps are acts.
-use Rattle.std.proofs.Common.{◌≡◌, ℕ, zero, suc, ◌+◌, Bool, false, List, [], ◌∷◌, ◌++◌, replicate, Result, nat_le, Option, None}
-use Rattle.std.proofs.Common.{Ok, Err, ◌⊎◌, inl, inr, refl, sym, ap, ◌∙◌, append_assoc, arith}
-use Rattle.std.proofs.lemmas.List.{append-nil}
-use Rattle.pac_cpu.specs.declared.once.Once.{Once}
-use Rattle.pac_cpu.specs.declared.once.Stop.{Stop}
-use Rattle.pac_board_model.specs.BoardView.{BoardView}
-use Rattle.pac_board_model.specs.Host.{Act, StepOn, Account, Host, with_step, after_act, after_acts}
-use Rattle.pac_board_model.specs.Laws.{IsTimely}
-use Rattle.pac_board_model.specs.Output.{Output}
-use Rattle.pac_board_model.specs.Step.{Moment, Next, Goes, Ends, step}
-use Rattle.pac_board_model.specs.Trace.{by_view}
-use Rattle.pac_board_model.specs.Walk.{Walk, walk, walk_after_step}
-use Rattle.pac_board_model.proofs.Walks.{step-timely}
-use Rattle.pac_machine.specs.declared.due.Due.{Due}
-use Rattle.pac_board.specs.declared.exec.Ran.{Ran}
-use Rattle.pac_board.specs.declared.fault.Fault.{Fault}
-use Rattle.pac_board.specs.declared.fault.Fault.TheVariants.{TooFar, Refused}
-use Rattle.pac_board.specs.declared.fault.Idle.{Idle}
-use Rattle.pac_board.specs.SinksLaws.{Giving}
-use Rattle.pac_board.specs.State.{BoardValue, due_outputs, nothing_due, time_of}
-use Rattle.pac_board.specs.CallsLaws.{Executes, StepsOnce, Offers, Advances, IsOfferRefused, IsStepRefused}
-use Rattle.pac_board.specs.Calls.{next_of, outputs_given, outputs_in, board_after_step, with_due}
-use Rattle.pac_board.specs.Hosts.{run_took, refused_took, step_took, offer_took, way_took, until_took}
-use Rattle.pac_board.specs.Roads.{GoesUntil}
-use Rattle.pac_machine.specs.declared.watch.Access.{Access}
-use Rattle.pac_board.specs.Turns.{GoesTo, way, way_at}
-use Rattle.pac_board_model.specs.Walk.{walk_at_start, onward_if}
+use Rattle.pac_board.proofs.Common.{Access, Account, Act, Advances, BoardValue, BoardView, Bool, Due, Ends, Err, Executes, Fault, Giving}
+use Rattle.pac_board.proofs.Common.{Goes, GoesTo, GoesUntil, Host, Idle, IsOfferRefused, IsStepRefused, IsTimely, List, Moment, Next, None}
+use Rattle.pac_board.proofs.Common.{Offers, Ok, Once, Option, Output, Ran, Refused, Result, StepOn, StepsOnce, Stop, TooFar, Walk, []}
+use Rattle.pac_board.proofs.Common.{after_act, after_acts, ap, append-nil, append_assoc, arith, board_after_step, by_view, due_outputs}
+use Rattle.pac_board.proofs.Common.{false, inl, inr, latest, nat_le, next_of, nothing_due, offer_took, onward_if, outputs_given, outputs_in}
+use Rattle.pac_board.proofs.Common.{refl, refused_took, replicate, run_took, step, step-timely, step_took, suc, sym, time_of, until_took}
+use Rattle.pac_board.proofs.Common.{walk, walk_after_step, walk_at_start, way, way_at, way_took, with_due, with_step, zero, ℕ, ◌++◌, ◌+◌}
+use Rattle.pac_board.proofs.Common.{◌<◌, ◌∙◌, ◌∷◌, ◌≡◌, ◌⊎◌}
 use Rattle.pac_board.proofs.Parts.{first-try, none-due}
-use Rattle.pac_board.specs.State.{latest}
-use Rattle.std.proofs.Common.{◌<◌}
 
 -- ---- acts, one after another
 

@@ -1,28 +1,12 @@
 -- A host's calls are acts over the history.
-use Rattle.std.proofs.Common.{◌≡◌, ℕ, ◌-◌, Bool, true, false, List, [], ◌∷◌, ◌++◌, map, replicate, slice_index_or}
-use Rattle.std.proofs.Common.{◌≤◌, nat_le, ◌&&◌, length, take, drop, refl, sym, ap, subst, ◌∙◌, append_assoc, arith}
-use Rattle.std.proofs.Math.Seq.{take-append_seam, drop-append_seam}
-use Rattle.std.proofs.lemmas.Bool.Decides.{nat_tests}
-use Rattle.std.proofs.lemmas.List.{append-nil}
-use Rattle.pac_board_model.specs.BoardView.{BoardView}
-use Rattle.pac_board_model.specs.Host.{Act, StepOn, Host, after_acts, host_at, account_by_view}
-use Rattle.pac_board_model.specs.Output.{Output}
-use Rattle.pac_board_model.specs.Step.{Moment, step}
-use Rattle.pac_board_model.specs.Trace.{by_view}
-use Rattle.pac_board_model.specs.Walk.{Walk, walk}
-use Rattle.pac_board_model.proofs.HostCarried.{hosts-agree}
-use Rattle.pac_board_model.proofs.HostKeeps.{hosts-are-line-exact}
-use Rattle.pac_board_model.proofs.Told.{view-tells}
-use Rattle.pac_board_model.proofs.Walks.{not-both}
-use Rattle.pac_board.specs.SinksLaws.{Giving}
-use Rattle.pac_board.specs.State.{BoardState, due_outputs}
-use Rattle.pac_board.specs.Hosts.{Call, Exec, StepOnce, Advance, Offer, GoTo, GoOn, CountAsked, ForgetAsked, Reset, InputSet, InputClear}
-use Rattle.pac_board.specs.Hosts.{Snapshot, Restore, PutFields, PutRoms, HostedBoard}
-use Rattle.pac_board.specs.Hosts.{IsCall, AreCalls, acts_of, acts_over, goes_back, stays_within, steps_between}
-use Rattle.pac_board.specs.Hosts.{history, CallsAreOfTheHistory}
-use Rattle.pac_board.specs.Turns.{way_at}
-use Rattle.pac_map.specs.RomParts.{Parts}
-use Rattle.std.proofs.lemmas.Grind.{common_steps}
+use Rattle.pac_board.proofs.Common.{Act, Advance, AreCalls, BoardState, BoardView, Bool, Call, CallsAreOfTheHistory, CountAsked, Exec}
+use Rattle.pac_board.proofs.Common.{ForgetAsked, Giving, GoOn, GoTo, Host, HostedBoard, InputClear, InputSet, IsCall, List, Moment, Offer}
+use Rattle.pac_board.proofs.Common.{Output, Parts, PutFields, PutRoms, Reset, Restore, Snapshot, StepOn, StepOnce, Walk, []}
+use Rattle.pac_board.proofs.Common.{account_by_view, acts_of, acts_over, after_acts, ap, append-nil, append_assoc, arith, by_view}
+use Rattle.pac_board.proofs.Common.{common_steps, drop, drop-append_seam, due_outputs, false, goes_back, history, host_at, hosts-agree}
+use Rattle.pac_board.proofs.Common.{hosts-are-line-exact, length, map, nat_le, nat_tests, not-both, refl, replicate, slice_index_or}
+use Rattle.pac_board.proofs.Common.{stays_within, step, steps_between, subst, sym, take, take-append_seam, true, view-tells, walk, way_at}
+use Rattle.pac_board.proofs.Common.{ℕ, ◌&&◌, ◌++◌, ◌-◌, ◌∙◌, ◌∷◌, ◌≡◌, ◌≤◌}
 use Rattle.pac_board.proofs.HostWalks.{IsWalk, acts-joined, advance-walk, offer-still, once-walk, run-walk, until-walk, walked, way-walk}
 
 abbrev pub moments : List BoardState → List (Moment BoardView)

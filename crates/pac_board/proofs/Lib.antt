@@ -1,3 +1,4 @@
+pub mod Common
 pub mod Sinks
 pub mod Walked
 pub mod Offered

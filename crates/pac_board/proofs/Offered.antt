@@ -1,17 +1,9 @@
 -- A step, and the offer of what was due before it and of what it gave.
-use Rattle.std.proofs.Common.{◌≡◌, ℤ, List, [], ◌++◌, Option, None, Some, Bool, true, false, refl, sym, ap, subst, ◌∙◌}
+use Rattle.pac_board.proofs.Common.{BoardValue, BoardView, Bool, Cut, Due, Ends, Giving, Goes, Image, IsAdvanced, IsOfferRefused}
+use Rattle.pac_board.proofs.Common.{IsStepRefused, IsTurn, IsTurnRefused, List, Next, None, Once, Option, Output, Some, TookAll, [], ap}
+use Rattle.pac_board.proofs.Common.{board_after_step, due_outputs, false, image_of, next_of, nothing_due, outputs_in, refl, shows_of}
+use Rattle.pac_board.proofs.Common.{sounds_of, subst, sym, true, with_due, ℤ, ◌++◌, ◌∙◌, ◌≡◌}
 use mathlib.Core.List.{prefix-append}
-use Rattle.pac_cpu.specs.declared.once.Once.{Once}
-use Rattle.pac_board_model.specs.BoardView.{BoardView}
-use Rattle.pac_board_model.specs.Output.{Output, Image, image_of}
-use Rattle.pac_board_model.specs.Step.{Next, Goes, Ends}
-use Rattle.pac_machine.specs.declared.due.Due.{Due}
-use Rattle.pac_board.specs.SinksLaws.{Giving, Cut}
-use Rattle.pac_board.specs.Sinks.{TookAll}
-use Rattle.pac_board.specs.State.{BoardValue, nothing_due, sounds_of, shows_of, due_outputs}
-use Rattle.pac_board.specs.Calls.{next_of, board_after_step, outputs_in, with_due}
-use Rattle.pac_board.specs.CallsLaws.{IsAdvanced, IsOfferRefused, IsStepRefused}
-use Rattle.pac_board.specs.TurnsProofs.{IsTurn, IsTurnRefused}
 use Rattle.pac_board.proofs.Sinks.{cut-along, cut-after, cut-something}
 
 -- ---- one step after what was due

@@ -1,19 +1,11 @@
 -- Single steps and offers are parts of a run.
-use Rattle.std.proofs.Common.{◌≡◌, ℕ, ℤ, zero, suc, ◌+◌, ◌-◌, ◌<◌, ◌≤◌, Bool, true, false, Option, None, Some, List, [], ◌∷◌, ◌++◌}
-use Rattle.std.proofs.Common.{refl, sym, ap, subst, ◌∙◌, append_assoc, append-nil, arith}
-use Rattle.pac_board_model.specs.BoardView.{BoardView}
-use Rattle.pac_board_model.specs.Laws.{IsTimely}
-use Rattle.pac_board_model.specs.Output.{Output, Sound, Show, Image, image_of}
-use Rattle.pac_board_model.specs.Step.{Moment, Next, Goes, Ends, step}
-use Rattle.pac_board_model.specs.Trace.{by_view}
-use Rattle.pac_board_model.specs.Walk.{Walk, walk, walk_to, walk_at_start, walk_after_step}
-use Rattle.pac_board_model.proofs.Walks.{going-steps, open-goes-on, goes-on, joined, step-timely}
-use Rattle.pac_machine.specs.declared.due.Due.{Due}
-use Rattle.pac_board.specs.SinksLaws.{Giving}
-use Rattle.pac_board.specs.State.{BoardValue, due_outputs, due_with, shows_of, nothing_due, time_of, steps_counted}
-use Rattle.pac_board.specs.Calls.{next_of, outputs_in, board_after_step, with_due}
-use Rattle.pac_board.specs.Calls.{course, board_after_run}
-use Rattle.pac_board.specs.Laws.{HasTime, IsOnTheWay, StepsArePartsOfRuns}
+use Rattle.pac_board.proofs.Common.{BoardValue, BoardView, Bool, Due, Ends, Giving, Goes, HasTime, Image, IsOnTheWay, IsTimely, List}
+use Rattle.pac_board.proofs.Common.{Moment, Next, None, Option, Output, Show, Some, Sound, StepsArePartsOfRuns, Walk, [], ap, append_assoc}
+use Rattle.pac_board.proofs.Common.{arith, board_after_run, board_after_step, by_view, course, due_outputs, due_with, false, goes-on}
+use Rattle.pac_board.proofs.Common.{going-steps, image_of, joined, next_of, nothing_due, open-goes-on, outputs_in, refl, shows_of, step}
+use Rattle.pac_board.proofs.Common.{step-timely, steps_counted, subst, suc, sym, time_of, true, walk, walk_after_step, walk_at_start}
+use Rattle.pac_board.proofs.Common.{walk_to, with_due, zero, ℕ, ℤ, ◌++◌, ◌+◌, ◌-◌, ◌<◌, ◌∙◌, ◌∷◌, ◌≡◌, ◌≤◌}
+use Rattle.std.proofs.Common.{append-nil}
 use Rattle.pac_board.proofs.Pieces.{two-parts}
 use Rattle.pac_board.proofs.Walked.{walked-after}
 

@@ -1,22 +1,11 @@
 -- Time in pieces, refusals, and steps that are done again.
-use Rattle.std.proofs.Common.{◌≡◌, ℕ, zero, suc, ◌+◌, ◌-◌, ◌≤◌, List, ◌++◌}
-use Rattle.std.proofs.Common.{sym, ap, subst, ◌∙◌, append_assoc, append-nil, arith}
-use Rattle.pac_board_model.specs.BoardView.{BoardView}
-use Rattle.pac_board_model.specs.Output.{Output}
-use Rattle.pac_board_model.specs.Step.{Moment, step}
-use Rattle.pac_board_model.specs.Trace.{by_view}
-use Rattle.pac_board_model.specs.Walk.{Walk, walk_to}
-use Rattle.pac_board_model.proofs.Walks.{goes-on, walks-joined, joined, step-timely}
-use Rattle.pac_map.specs.RomParts.{Parts}
-use Rattle.pac_machine.specs.declared.due.Due.{Due}
-use Rattle.pac_board.specs.SinksLaws.{Giving}
-use Rattle.pac_board.specs.State.{BoardValue, due_outputs_in, due_outputs, nothing_due, time_of, steps_counted}
-use Rattle.pac_board.specs.Calls.{next_from_moment, course, outputs_given, board_after_course, board_after_run}
-use Rattle.pac_board.specs.Calls.{with_due}
-use Rattle.pac_board.specs.CallsLaws.{course_at}
-use Rattle.pac_board.specs.CallsLaws.{IsRunRefused}
+use Rattle.pac_board.proofs.Common.{AreRefused, BoardValue, BoardView, Due, Giving, IsRunRefused, IsTakenUp, List, Moment, Output, Parts}
+use Rattle.pac_board.proofs.Common.{RefusalsAreTakenUp, StepsAreDoneAgain, TimeCanBeCut, Walk, ap, append_assoc, arith, board_after_course}
+use Rattle.pac_board.proofs.Common.{board_after_run, by_view, course, course_at, due_outputs, due_outputs_in, goes-on, joined}
+use Rattle.pac_board.proofs.Common.{next_from_moment, nothing_due, outputs_given, step, step-timely, steps_counted, subst, suc, sym}
+use Rattle.pac_board.proofs.Common.{time_of, walk_to, walks-joined, with_due, zero, ℕ, ◌++◌, ◌+◌, ◌-◌, ◌∙◌, ◌≡◌, ◌≤◌}
+use Rattle.std.proofs.Common.{append-nil}
 use Rattle.pac_board.proofs.Walked.{walked-after}
-use Rattle.pac_board.specs.Laws.{IsTakenUp, AreRefused, TimeCanBeCut, RefusalsAreTakenUp, StepsAreDoneAgain}
 
 -- ---- sums
 

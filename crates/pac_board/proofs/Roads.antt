@@ -1,31 +1,11 @@
 -- A board's loop ends at its limit, or earlier, where it is to stop, or where a step did something at an address that is watched. Then its
 -- walk is the one to that time.
-use Rattle.std.proofs.Common.{◌≡◌, ℕ, zero, suc, ◌+◌, ◌<◌, ◌≤◌, nat_lt, Bool, true, false, List, Option, None, Some, Result, Ok, Err}
-use Rattle.std.proofs.Common.{is_some, refl, sym, ap, subst, ◌∙◌, arith}
-use Rattle.std.proofs.lemmas.Bool.Decides.{nat_tests}
-use Rattle.pac_cpu.specs.declared.once.Stop.{Stop}
-use Rattle.pac_map.specs.RomParts.{Parts}
-use Rattle.pac_board_model.specs.Laws.{IsTimely}
-use Rattle.pac_board_model.specs.Output.{Output}
-use Rattle.pac_board_model.specs.Step.{Moment, Next, Goes, Ends, step}
-use Rattle.pac_board_model.specs.Trace.{by_view}
-use Rattle.pac_board_model.specs.Walk.{Walk, walk, walk_onward, walk_after_step}
-use Rattle.pac_board_model.specs.WalkLaws.{has_ended}
-use Rattle.pac_board_model.proofs.Walks.{not-both, going-before, going-steps, late-has-ended, open-goes-on, step-timely}
-use Rattle.pac_machine.specs.declared.trail.PastStep.{PastStep}
-use Rattle.pac_machine.specs.declared.watch.Access.{Access}
-use Rattle.pac_machine.specs.Watches.{IsWatched}
-use Rattle.pac_machine.specs.Stops.{is_stop}
-use Rattle.pac_machine.specs.StopsProofs.{PassesBy}
-use Rattle.pac_machine.proofs.Passing.{passes-more}
-use Rattle.pac_machine.proofs.Watched.{watched-first, watched-more}
-use Rattle.pac_board.specs.Roads.{IsHeld, HasGoneUntil, GoesUntil}
-use Rattle.pac_board.specs.RoadsProofs.{BoardPasses, BoardWatched}
-use Rattle.pac_board.specs.Sinks.{TookAll}
-use Rattle.pac_board.specs.SinksLaws.{Giving}
-use Rattle.pac_board.specs.State.{BoardValue}
-use Rattle.pac_board.specs.Stretches.{IsTold}
-use Rattle.pac_board.specs.Turns.{way_at, board_after_walk, HasGone, GoesTo}
+use Rattle.pac_board.proofs.Common.{Access, BoardPasses, BoardValue, BoardWatched, Bool, Ends, Err, Giving, Goes, GoesTo, GoesUntil}
+use Rattle.pac_board.proofs.Common.{HasGone, HasGoneUntil, IsHeld, IsTimely, IsTold, IsWatched, List, Moment, Next, None, Ok, Option}
+use Rattle.pac_board.proofs.Common.{Output, Parts, PassesBy, PastStep, Result, Some, Stop, TookAll, Walk, ap, arith, board_after_walk}
+use Rattle.pac_board.proofs.Common.{by_view, false, going-before, going-steps, has_ended, is_some, is_stop, late-has-ended, nat_lt}
+use Rattle.pac_board.proofs.Common.{nat_tests, not-both, open-goes-on, passes-more, refl, step, step-timely, subst, suc, sym, true, walk}
+use Rattle.pac_board.proofs.Common.{walk_after_step, walk_onward, watched-first, watched-more, way_at, zero, ℕ, ◌+◌, ◌<◌, ◌∙◌, ◌≡◌, ◌≤◌}
 use Rattle.pac_board.proofs.Stretches.{has-no-stop}
 use Rattle.pac_board.proofs.Told.{told-more}
 use Rattle.pac_board.proofs.Turns.{IsUnderway, ended, time-is-over}

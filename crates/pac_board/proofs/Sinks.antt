@@ -1,11 +1,7 @@
 -- What a sink took and refused, output by output.
-use Rattle.std.proofs.Common.{◌≡◌, ℕ, ℤ, ◌+◌, ◌<◌, ◌≤◌, List, [], ◌∷◌, ◌++◌}
-use Rattle.std.proofs.Common.{map, take, length, get_or, arith, refl, sym, ap, subst, ◌∙◌, append_assoc}
-use Rattle.std.proofs.lemmas.List.{map-append, take_more}
+use Rattle.pac_board.proofs.Common.{Cut, Giving, List, Output, RefusesAt, Sound, Then, TookAll, [], ap, append_assoc, arith, get_or, length}
+use Rattle.pac_board.proofs.Common.{map, map-append, refl, subst, sym, take, take_more, ℕ, ℤ, ◌++◌, ◌+◌, ◌<◌, ◌∙◌, ◌∷◌, ◌≡◌, ◌≤◌}
 use mathlib.Core.List.{IsPrefix}
-use Rattle.pac_board_model.specs.Output.{Output, Sound}
-use Rattle.pac_board.specs.SinksLaws.{Giving, RefusesAt, Cut}
-use Rattle.pac_board.specs.Sinks.{Then, TookAll}
 
 -- ---- taking some outputs, and then others
 

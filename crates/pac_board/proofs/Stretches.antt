@@ -1,29 +1,13 @@
 -- A stretch of a board is steps that give samples alone, and then one turn: so the loop over stretches goes along the same walk as one
 -- over turns.
-use Rattle.std.proofs.Common.{◌≡◌, ℕ, ℤ, suc, ◌+◌, ◌<◌, ◌≤◌, Bool, true, false, ◌||◌}
-use Rattle.std.proofs.Common.{List, [], ◌++◌, map, Option, None, Some, is_some, refl, sym, ap, subst, ◌∙◌, arith}
-use Rattle.pac_cpu.specs.declared.once.Stop.{Stop}
-use Rattle.pac_board_model.specs.BoardView.{BoardView}
-use Rattle.pac_board_model.specs.Laws.{IsTimely}
-use Rattle.pac_board_model.specs.Output.{Output, Sound}
-use Rattle.pac_board_model.specs.Step.{Moment, Next, Goes, Ends, step}
-use Rattle.pac_board_model.specs.Trace.{by_view}
-use Rattle.pac_board_model.specs.Walk.{Walk, walk, walk_to, walk_after_step}
-use Rattle.pac_board_model.specs.WalkLaws.{has_ended}
-use Rattle.pac_board_model.proofs.Walks.{not-both, going-is-early, going-steps, ended-whole, on-the-way, stopped-has-ended}
-use Rattle.pac_board_model.proofs.Walks.{late-has-ended, more-joined, step-timely}
-use Rattle.pac_board.specs.SinksLaws.{Giving, by}
-use Rattle.pac_board.specs.Sinks.{TookAll}
-use Rattle.pac_board.specs.State.{BoardValue, nothing_due, due_outputs}
-use Rattle.pac_board.specs.Calls.{outputs_in, with_due}
-use Rattle.pac_board.specs.CallsLaws.{once_at, IsOfferRefused}
-use Rattle.pac_board.specs.Calls.{next_from_moment}
-use Rattle.pac_board.specs.Turns.{way_at, board_after_walk, HasGone, IsWayRefused}
-use Rattle.pac_machine.specs.Bursts.{stretch_end}
-use Rattle.pac_machine.specs.BurstsProofs.{outputs_of_step}
-use Rattle.pac_board.specs.Stretches.{stretch_of, batch_of, IsStretched, HasBatch, IsHeardUntil, IsLastTurn}
-use Rattle.pac_board.specs.Stretches.{HasStretched, IsStretchRefused}
-use Rattle.pac_board.specs.TurnsProofs.{IsTurn}
+use Rattle.pac_board.proofs.Common.{BoardValue, BoardView, Bool, Ends, Giving, Goes, HasBatch, HasGone, HasStretched, IsHeardUntil}
+use Rattle.pac_board.proofs.Common.{IsLastTurn, IsOfferRefused, IsStretchRefused, IsStretched, IsTimely, IsTurn, IsWayRefused, List, Moment}
+use Rattle.pac_board.proofs.Common.{Next, None, Option, Output, Some, Sound, Stop, TookAll, Walk, [], ap, arith, batch_of, board_after_walk}
+use Rattle.pac_board.proofs.Common.{by, by_view, due_outputs, ended-whole, false, going-is-early, going-steps, has_ended, is_some}
+use Rattle.pac_board.proofs.Common.{late-has-ended, map, more-joined, next_from_moment, not-both, nothing_due, on-the-way, once_at}
+use Rattle.pac_board.proofs.Common.{outputs_in, outputs_of_step, refl, step, step-timely, stopped-has-ended, stretch_end, stretch_of, subst}
+use Rattle.pac_board.proofs.Common.{suc, sym, true, walk, walk_after_step, walk_to, way_at, with_due, ℕ, ℤ, ◌++◌, ◌+◌, ◌<◌, ◌||◌, ◌∙◌, ◌≡◌}
+use Rattle.pac_board.proofs.Common.{◌≤◌}
 use Rattle.pac_board.proofs.Pieces.{two-parts}
 use Rattle.pac_board.proofs.Sinks.{took-both, cut-along}
 use Rattle.pac_board.proofs.Turns.{IsUnderway, after-outputs, refused-goes, stepped-moved}

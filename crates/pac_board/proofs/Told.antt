@@ -1,15 +1,6 @@
 -- What a board's stretches tell, one after another.
-use Rattle.std.proofs.Common.{◌≡◌, ℕ, List, Option, subst}
-use Rattle.pac_map.specs.RomParts.{Parts}
-use Rattle.pac_board_model.specs.BoardView.{BoardView}
-use Rattle.pac_board_model.specs.Step.{Moment, step}
-use Rattle.pac_board_model.specs.Trace.{by_view}
-use Rattle.pac_machine.specs.declared.trail.PastStep.{PastStep}
-use Rattle.pac_machine.specs.StandingProofs.{BoardStanding}
-use Rattle.pac_machine.specs.Trails.{IsNoted}
-use Rattle.pac_machine.proofs.Noted.{noted-more}
-use Rattle.pac_board.specs.State.{BoardValue}
-use Rattle.pac_board.specs.Stretches.{IsTold}
+use Rattle.pac_board.proofs.Common.{BoardStanding, BoardValue, BoardView, IsNoted, IsTold, List, Moment, Option, Parts, PastStep, by_view}
+use Rattle.pac_board.proofs.Common.{noted-more, step, subst, ℕ, ◌≡◌}
 
 pub board-noted : (old : BoardValue) (machine : BoardStanding) (after : Moment BoardView) (limit : ℕ)
     (told more : Option (List PastStep)) → machine ≡ record { set = old.set; now = old.state.now }

@@ -1,10 +1,6 @@
 -- A walk only adds time and steps.
-use Rattle.std.proofs.Common.{◌≡◌, ℕ, zero, suc, ◌≤◌, Bool, true, false, refl, subst, sym, arith}
-use Rattle.pac_board_model.specs.Laws.{IsTimely}
-use Rattle.pac_board_model.specs.Step.{Moment, Next, Goes, Ends}
-use Rattle.pac_board_model.specs.Walk.{Walk, walk, walk_onward, walk_after_step}
-use Rattle.pac_board_model.specs.WalkLaws.{has_ended}
-use Rattle.pac_board_model.proofs.Walks.{ended-stays, going-steps}
+use Rattle.pac_board.proofs.Common.{Bool, Ends, Goes, IsTimely, Moment, Next, Walk, arith, ended-stays, false, going-steps, has_ended, refl}
+use Rattle.pac_board.proofs.Common.{subst, suc, sym, true, walk, walk_after_step, walk_onward, zero, ℕ, ◌≡◌, ◌≤◌}
 
 pub record IsAfter {Board : Type 0} (before after : Moment Board) : Type 0 where
   pub time : before.time ≤ after.time

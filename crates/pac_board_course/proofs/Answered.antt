@@ -1,27 +1,14 @@
 -- Where a frame's steps leave a course, from where they leave its board.
-use Rattle.std.proofs.Common.{◌≡◌, ℕ, zero, suc, ◌+◌, ◌-◌, ◌<◌, ◌≤◌, ◌⊎◌, None, rules, sym, ap, subst, ◌∙◌, arith}
+use Rattle.pac_board_course.proofs.Common.{BoardValue, BoardView, CourseValue, Due, Giving, IsCourseHeldUp, IsUnderway, IsWayRefused}
+use Rattle.pac_board_course.proofs.Common.{Moment, None, TookAll, Walk, ap, arith, board_after_walk, board_with_inputs, by_view}
+use Rattle.pac_board_course.proofs.Common.{course_after, course_with_due, cut-along, cut-something, due_outputs, end_of, frame_end, held}
+use Rattle.pac_board_course.proofs.Common.{held_in, next_in, nothing_due, play-timely, rules, steps_counted, subst, suc, sym, walk}
+use Rattle.pac_board_course.proofs.Common.{with_due, zero, ℕ, ◌+◌, ◌-◌, ◌<◌, ◌∙◌, ◌≡◌, ◌≤◌, ◌⊎◌}
 use mathlib.Core.List.{IsPrefix}
-use Rattle.pac_board.specs.BoardView.{BoardView}
-use Rattle.pac_board.specs.Calls.{with_due}
-use Rattle.pac_board.specs.Step.{Moment}
-use Rattle.pac_board.specs.Trace.{by_view}
-use Rattle.pac_board.specs.Walk.{Walk, walk}
-use Rattle.pac_board.specs.Due.{Due}
-use Rattle.pac_board.proofs.Walks.{play-timely}
-use Rattle.pac_board.proofs.Sinks.{cut-along, cut-something}
-use Rattle.pac_board.specs.SinksLaws.{Giving}
-use Rattle.pac_board.specs.Sinks.{TookAll}
-use Rattle.pac_board.specs.State.{BoardValue, board_with_inputs, due_outputs, nothing_due, steps_counted}
-use Rattle.pac_board.specs.Turns.{IsWayRefused, board_after_walk}
-use Rattle.pac_inputs.specs.Stretches.{held}
 use Rattle.pac_board_course.proofs.Counted.{counted, going-if-counted, going-same, going-next}
 use Rattle.pac_board_course.proofs.Framed.{frame_walk, frame_closed, frames_ended, frame-now, frame-closed, on-the-way-on}
 use Rattle.pac_board_course.proofs.Framed.{closed-outputs, closed-stop}
 use Rattle.pac_board_course.proofs.Whole.{frame-within, held-after, not-held-yet}
-use Rattle.pac_board_course.specs.Course.{CourseValue, end_of, next_in, held_in, course_after}
-use Rattle.pac_board_course.specs.CourseProofs.{course_with_due}
-use Rattle.pac_board_course.specs.Frames.{IsUnderway, frame_end}
-use Rattle.pac_board_course.specs.Plays.{IsCourseHeldUp}
 
 -- the inputs that are held after the frame under way
 abbrev pub next_mask : CourseValue → ℕ

@@ -1,15 +1,8 @@
 -- A course from power-on is the trace of its script.
-use Rattle.std.proofs.Common.{◌≡◌, ℕ, zero, suc, ◌*◌, refl, ap, ◌∙◌, arith, rules}
-use Rattle.pac_board.specs.BoardView.{power_on_board_view}
-use Rattle.pac_board.specs.Step.{Questions, Moment, Next, frame_ticks, step}
-use Rattle.pac_board.specs.State.{power_on_board}
-use Rattle.pac_board.specs.Trace.{by_view, next_with_inputs, play_step}
-use Rattle.pac_board.specs.Walk.{walk, walk_to}
-use Rattle.pac_board.proofs.Runs.{runs-end}
-use Rattle.pac_board.proofs.Walks.{walk-to-ends, play-timely}
-use Rattle.pac_inputs.specs.Stretches.{total_frames, held}
-use Rattle.pac_board_course.specs.Course.{CourseValue, begun, end_of, held_in, next_in}
-use Rattle.pac_board_course.specs.Laws.{CoursesBegin}
+use Rattle.pac_board_course.proofs.Common.{CourseValue, CoursesBegin, Moment, Next, Questions, ap, arith, begun, by_view, end_of}
+use Rattle.pac_board_course.proofs.Common.{frame_ticks, held, held_in, next_in, next_with_inputs, play-timely, play_step, power_on_board}
+use Rattle.pac_board_course.proofs.Common.{power_on_board_view, refl, rules, runs-end, step, suc, total_frames, walk, walk-to-ends, walk_to}
+use Rattle.pac_board_course.proofs.Common.{zero, ℕ, ◌*◌, ◌∙◌, ◌≡◌}
 
 -- ---- steps that come to the same make the same walk
 

@@ -1,10 +1,6 @@
 -- Walks whose tries are their steps, and walks to two limits.
-use Rattle.std.proofs.Common.{◌≡◌, ℕ, zero, suc, ◌+◌, ◌≤◌, None, Bool, true, false, refl, arith, rules}
-use Rattle.pac_board.specs.ModelLaws.{IsTimely}
-use Rattle.pac_board.specs.Step.{Moment, Next}
-use Rattle.pac_board.specs.Walk.{Walk, walk, walk_onward}
-use Rattle.pac_board.specs.WalkLaws.{has_ended}
-use Rattle.pac_board.proofs.Walks.{ended-stays, going-before, going-counted}
+use Rattle.pac_board_course.proofs.Common.{Bool, IsTimely, Moment, Next, None, Walk, arith, ended-stays, false, going-before, going-counted}
+use Rattle.pac_board_course.proofs.Common.{has_ended, refl, rules, suc, true, walk, walk_onward, zero, ℕ, ◌+◌, ◌≡◌, ◌≤◌}
 
 -- ---- steps and tries
 

@@ -1,15 +1,8 @@
 -- A frame of a course: the board's walk to the frame's end, at which the next one's inputs are held, is on the way on.
-use Rattle.std.proofs.Common.{◌≡◌, ℕ, ◌/◌, ◌<◌, ◌≤◌, Option, Bool, true, false, if◌then◌else◌, rules, nat_le, is_some, ◌∙◌, arith}
-use Rattle.std.proofs.lemmas.Bool.Decides.{nat_tests}
-use Rattle.pac_board.specs.Stop.{Stop}
-use Rattle.pac_board.specs.BoardView.{BoardView}
-use Rattle.pac_board.specs.Step.{Questions, Moment, frame_ticks, step}
-use Rattle.pac_board.specs.Trace.{by_view, moment_with_inputs}
-use Rattle.pac_board.specs.Walk.{Walk, walk}
-use Rattle.pac_board.proofs.Runs.{closed, closed_if, walk-closed}
-use Rattle.pac_board.proofs.Walks.{on-the-way, stopped-is-early}
-use Rattle.pac_board_course.specs.Course.{CourseValue, held_in, end_of, next_in}
-use Rattle.pac_board_course.specs.Frames.{frame_end}
+use Rattle.pac_board_course.proofs.Common.{BoardView, Bool, CourseValue, Moment, Option, Questions, Stop, Walk, arith, by_view, closed}
+use Rattle.pac_board_course.proofs.Common.{closed_if, end_of, false, frame_end, frame_ticks, held_in, if◌then◌else◌, is_some}
+use Rattle.pac_board_course.proofs.Common.{moment_with_inputs, nat_le, nat_tests, next_in, on-the-way, rules, step, stopped-is-early, true}
+use Rattle.pac_board_course.proofs.Common.{walk, walk-closed, ℕ, ◌/◌, ◌<◌, ◌∙◌, ◌≡◌, ◌≤◌}
 
 -- the frames that have ended
 abbrev pub frames_ended : CourseValue → ℕ

@@ -1,31 +1,15 @@
 -- Steps of a course in one go: those of its board up to a limit within the frame under way.
-use Rattle.std.proofs.Common.{◌≡◌, ℕ, zero, suc, ◌+◌, ◌<◌, ◌≤◌, rules, min, Bool, true, false, inl, inr, Option, None, Some, Result, Ok}
-use Rattle.std.proofs.Common.{Err, List, refl, sym, ap, subst, ◌∙◌, arith}
+use Rattle.pac_board_course.proofs.Common.{BoardValue, BoardView, Bool, CourseValue, Ends, Err, Giving, GoesTo, GoesTold, GoesUntil}
+use Rattle.pac_board_course.proofs.Common.{HasGone, IsNoted, IsTimely, IsWayRefused, List, Moment, Next, None, Ok, Option, PassesBy}
+use Rattle.pac_board_course.proofs.Common.{PastStep, PlaysInFrame, Result, Some, Stop, TookAll, Walk, ap, arith, board_after_walk, by_view}
+use Rattle.pac_board_course.proofs.Common.{cut-along, end_of, false, frame_end, has_ended, held_in, inl, inr, min, next_in}
+use Rattle.pac_board_course.proofs.Common.{next_with_inputs, noted, noted_step, now_after, on-the-way, open-is-late, play-timely, refl}
+use Rattle.pac_board_course.proofs.Common.{rules, step, step-timely, stepped, subst, suc, sym, true, walk, walk-stepped, walk-to-ends}
+use Rattle.pac_board_course.proofs.Common.{way_walked, with_due, zero, ℕ, ◌+◌, ◌<◌, ◌∙◌, ◌≡◌, ◌≤◌}
 use mathlib.Core.List.{IsPrefix}
-use Rattle.pac_board.specs.Stop.{Stop}
-use Rattle.pac_board.specs.BoardView.{BoardView}
-use Rattle.pac_board.specs.Calls.{now_after, with_due}
-use Rattle.pac_board.specs.ModelLaws.{IsTimely}
-use Rattle.pac_board.specs.Step.{Moment, Next, Ends, step}
-use Rattle.pac_board.specs.Trace.{by_view, next_with_inputs}
-use Rattle.pac_board.specs.Trails.{noted_step, stepped, noted, IsNoted}
-use Rattle.pac_board.specs.Roads.{GoesUntil}
-use Rattle.pac_board.specs.StopsProofs.{PassesBy}
-use Rattle.pac_board.specs.Turns.{GoesTo, HasGone, IsWayRefused, board_after_walk}
-use Rattle.pac_board.specs.Walk.{Walk, walk}
-use Rattle.pac_board.specs.WalkLaws.{has_ended}
-use Rattle.pac_board.specs.PastStep.{PastStep}
-use Rattle.pac_board.proofs.Noted.{walk-stepped}
-use Rattle.pac_board.proofs.Walks.{on-the-way, open-is-late, walk-to-ends, step-timely, play-timely}
-use Rattle.pac_board.specs.SinksLaws.{Giving}
-use Rattle.pac_board.specs.Sinks.{TookAll}
-use Rattle.pac_board.specs.State.{BoardValue}
-use Rattle.pac_board.proofs.Sinks.{cut-along}
 use Rattle.pac_board_course.proofs.Answered.{IsClosed, due-kept, underway, held-up}
 use Rattle.pac_board_course.proofs.Counted.{going-if-counted, going-same, going-next}
 use Rattle.pac_board_course.proofs.Framed.{frame_walk}
-use Rattle.pac_board_course.specs.Course.{CourseValue, end_of, next_in, held_in, way_walked}
-use Rattle.pac_board_course.specs.Frames.{PlaysInFrame, GoesTold, frame_end}
 
 -- ---- the step that meets a stop
 

@@ -1,9 +1,6 @@
 -- What a course that was held up has given is among what was left of its run.
-use Rattle.std.proofs.Common.{ℕ, List, ◌++◌, sym, ap, ◌∙◌}
+use Rattle.pac_board_course.proofs.Common.{CourseValue, Cut, Giving, List, Output, ap, course_after, sym, way_on, way_walked, ℕ, ◌++◌, ◌∙◌}
 use mathlib.Core.List.{IsPrefix}
-use Rattle.pac_board.specs.Output.{Output}
-use Rattle.pac_board.specs.SinksLaws.{Giving, Cut}
-use Rattle.pac_board_course.specs.Course.{CourseValue, way_on, way_walked, course_after}
 use Rattle.pac_board_course.proofs.Whole.{courses-go-on}
 
 pub refused-among : {S : Type 0} {to : Giving S} {sink later : S} {left : List Output} (course : CourseValue) (tries : ℕ)

@@ -1,26 +1,13 @@
 -- A course from frame to frame, to the end of its run.
-use Rattle.std.proofs.Common.{◌≡◌, ℕ, zero, suc, ◌+◌, ◌-◌, ◌<◌, ◌≤◌, ◌++◌, Option, None, Some, true, rules}
-use Rattle.std.proofs.Common.{is_some, refl, sym, ap, subst, ◌∙◌, arith}
-use Rattle.std.proofs.lemmas.Bool.Decides.{nat_tests}
+use Rattle.pac_board_course.proofs.Common.{BoardView, CourseValue, CoursesGoOn, Ends, Giving, HasPlayedInFrame, Hold, IsCourseHeldUp}
+use Rattle.pac_board_course.proofs.Common.{IsOver, IsTimely, IsUnderway, Moment, None, Option, Some, Stop, Walk, ap, arith, board_after}
+use Rattle.pac_board_course.proofs.Common.{by_view, course_after, cut-after, cut-along, cut-something, end_of, ended-whole, frame_end}
+use Rattle.pac_board_course.proofs.Common.{goes-on, going-steps, held, held_in, is_some, joined, late-has-ended, more-joined, nat_tests}
+use Rattle.pac_board_course.proofs.Common.{next_in, open-goes-on, play-timely, prefix-after, refl, rules, step, step-timely}
+use Rattle.pac_board_course.proofs.Common.{stopped-has-ended, subst, suc, sym, took-both, true, walk-near, walk_after_step, way_walked}
+use Rattle.pac_board_course.proofs.Common.{zero, ℕ, ◌++◌, ◌+◌, ◌-◌, ◌<◌, ◌∙◌, ◌≡◌, ◌≤◌}
 use mathlib.Core.List.{IsPrefix}
-use Rattle.pac_board.specs.Stop.{Stop}
-use Rattle.pac_board.specs.BoardView.{BoardView, board_after}
-use Rattle.pac_board.specs.Entry.{Hold}
-use Rattle.pac_board.specs.Step.{Moment, Ends, step}
-use Rattle.pac_board.specs.Trace.{by_view}
-use Rattle.pac_board.specs.Walk.{Walk, walk_after_step}
-use Rattle.pac_board.proofs.Runs.{walk-near}
-use Rattle.pac_board.proofs.Sinks.{took-both, cut-along, cut-after, cut-something, prefix-after}
-use Rattle.pac_board.proofs.Walks.{joined, more-joined, goes-on, ended-whole, late-has-ended, step-timely, play-timely}
-use Rattle.pac_board.proofs.Walks.{going-steps, open-goes-on, stopped-has-ended}
-use Rattle.pac_board.specs.ModelLaws.{IsTimely}
-use Rattle.pac_board.specs.SinksLaws.{Giving}
-use Rattle.pac_inputs.specs.Stretches.{held}
 use Rattle.pac_board_course.proofs.Framed.{frame_walk, moment_after, frames_ended}
-use Rattle.pac_board_course.specs.Course.{CourseValue, held_in, end_of, next_in, way_walked, course_after}
-use Rattle.pac_board_course.specs.Frames.{IsUnderway, HasPlayedInFrame, frame_end}
-use Rattle.pac_board_course.specs.Laws.{CoursesGoOn}
-use Rattle.pac_board_course.specs.Plays.{IsOver, IsCourseHeldUp}
 
 -- ---- a frame
 

@@ -1,12 +1,6 @@
 -- A run told by the source's items and the history is the run told by the bytes and the view, from power-on and from any moment on.
-use Rattle.std.proofs.Common.{ℕ, rules}
-use Rattle.pac_cpu.proofs.CodeLengths.{length-code}
-use Rattle.pac_cpu.proofs.RoundTrip.{decodes-prefix}
-use Rattle.pac_map.proofs.WellFormed.{power-on-well-formed}
-use Rattle.pac_picture.proofs.Composed.{black-picture}
-use Rattle.pac_board_model.specs.BoardView.{IsBoard, power_on_board_view}
-use Rattle.pac_board_model.specs.Laws.{RunsAgree}
-use Rattle.pac_board_model.specs.Resumed.{ResumedRunsAgree}
+use Rattle.pac_board_model.proofs.Common.{IsBoard, ResumedRunsAgree, RunsAgree, black-picture, decodes-prefix, length-code}
+use Rattle.pac_board_model.proofs.Common.{power-on-well-formed, power_on_board_view, rules, ℕ}
 use Rattle.pac_board_model.proofs.Carried.{run-carried, resumed-carried}
 use Rattle.pac_board_model.proofs.Items.{view-carries}
 

@@ -1,19 +1,10 @@
 -- A step and a run over one account of the board are those over the other, seen through the view.
-use Rattle.std.proofs.Common.{fold, ◌≡◌, ℕ, zero, suc, List, [], ◌∷◌, ◌+◌, ◌-◌, ◌*◌, nat_le, Option, Bool, refl, ap, ◌∙◌, arith, rules}
-use Rattle.pac_cpu.specs.Action.{Action}
-use Rattle.pac_cpu.specs.Regs.{Regs}
-use Rattle.pac_cpu.specs.declared.once.Stop.{Stop}
-use Rattle.pac_cpu.specs.declared.once.StepKind.{StepKind}
-use Rattle.pac_cpu.specs.Step.{CpuStep, Steps, Stops}
-use Rattle.pac_map.specs.Entry.{Entry, Hold, entries_of}
-use Rattle.pac_board_model.specs.Step.{Questions, Moment, StepProgress, Next, put_actions, put_kind, surroundings, frame_ticks, at_moment}
-use Rattle.pac_board_model.specs.Step.{through, progress_after_cpu, after_cpu_step, step}
-use Rattle.pac_board_model.specs.Walk.{Walk, walk, walk_onward, onward_if}
-use Rattle.pac_board_model.specs.Trace.{Play, next_with_inputs, play_step, power_on_moment, run_at}
-use Rattle.pac_board_model.specs.Trace.{frames_gone, resumed_start, resumed_step, resumed_end}
-use Rattle.pac_board_model.specs.TraceLaws.{resumed_at}
-use Rattle.pac_board_model.specs.CarriedProofs.{Carries}
-use Rattle.pac_board_model.specs.Carried.{moment_view, next_view, walk_view}
+use Rattle.pac_board_model.proofs.Common.{Action, Bool, Carries, CpuStep, Entry, Hold, List, Moment, Next, Option, Play, Questions, Regs}
+use Rattle.pac_board_model.proofs.Common.{StepKind, StepProgress, Steps, Stop, Stops, Walk, [], after_cpu_step, ap, arith, at_moment}
+use Rattle.pac_board_model.proofs.Common.{entries_of, fold, frame_ticks, frames_gone, moment_view, nat_le, next_view, next_with_inputs}
+use Rattle.pac_board_model.proofs.Common.{onward_if, play_step, power_on_moment, progress_after_cpu, put_actions, put_kind, refl}
+use Rattle.pac_board_model.proofs.Common.{resumed_at, resumed_end, resumed_start, resumed_step, rules, run_at, step, suc, surroundings}
+use Rattle.pac_board_model.proofs.Common.{through, walk, walk_onward, walk_view, zero, ℕ, ◌*◌, ◌+◌, ◌-◌, ◌∙◌, ◌∷◌, ◌≡◌}
 
 -- a walk over any steps that carry over
 module _ {From To : Type 0} (view : From → To) (one : Moment From → Next From) (other : Moment To → Next To)

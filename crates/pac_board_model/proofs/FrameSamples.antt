@@ -1,14 +1,7 @@
 -- When a frame's blank comes, each frame so far has had its samples.
-use Rattle.std.proofs.Common.{◌≡◌, ℕ, suc, ◌*◌, ◌/◌, ◌%◌, true, List, [], ◌∷◌, ◌++◌, subst, ◌∙◌, arith}
-use Rattle.pac_cpu.specs.PlacedItems.{Item}
-use Rattle.pac_map.specs.RomParts.{Parts}
-use Rattle.pac_map.specs.Entry.{Entry, Blank}
-use Rattle.pac_board_model.specs.BoardView.{BoardView, power_on_board_view}
-use Rattle.pac_board_model.specs.Laws.{FramesHaveTheirSamples}
-use Rattle.pac_board_model.specs.Step.{frame_samples}
-use Rattle.pac_board_model.specs.ShownLaws.{sample_count}
-use Rattle.pac_board_model.specs.Step.{Questions, StepProgress, sample_event, line_event, at_moment, sample_ticks, frame_ticks}
-use Rattle.pac_board_model.specs.Trace.{by_history}
+use Rattle.pac_board_model.proofs.Common.{Blank, BoardView, Entry, FramesHaveTheirSamples, Item, List, Parts, Questions, StepProgress, []}
+use Rattle.pac_board_model.proofs.Common.{arith, at_moment, by_history, frame_samples, frame_ticks, line_event, power_on_board_view}
+use Rattle.pac_board_model.proofs.Common.{sample_count, sample_event, sample_ticks, subst, suc, true, ℕ, ◌%◌, ◌*◌, ◌++◌, ◌/◌, ◌∙◌, ◌∷◌, ◌≡◌}
 use Rattle.pac_board_model.proofs.Outputs.{quiet-samples, sample-lasts}
 use Rattle.pac_board_model.proofs.RunsKeep.{is_quiet, sampled-holds, lined-holds, blanked-holds, run-told}
 use Rattle.pac_board_model.proofs.Walks.{not-both}

@@ -1,16 +1,8 @@
 -- What a host does to one account of the board is what it does to the other, seen through the view.
-use Rattle.std.proofs.Common.{rules, arith, ◌≡◌, ℕ, List, [], ◌∷◌, ◌++◌, map, slice_index_or, refl, sym, ap, ◌∙◌}
-use Rattle.std.proofs.lemmas.Grind.{common_steps}
-use Rattle.pac_map.specs.Entry.{Entry}
-use Rattle.pac_cpu.proofs.CodeLengths.{length-code}
-use Rattle.pac_cpu.proofs.RoundTrip.{decodes-prefix}
-use Rattle.pac_board_model.specs.CarriedProofs.{Carries}
-use Rattle.pac_board_model.specs.Carried.{moment_view, next_view}
-use Rattle.pac_board_model.specs.History.{board_after_entries}
-use Rattle.pac_board_model.specs.Host.{Act, Account, Host, with_step, put_now}
-use Rattle.pac_board_model.specs.Host.{after_act, after_acts, host_view, account_by_history, account_by_view}
-use Rattle.pac_board_model.specs.Laws.{StepsAgree, HostsAgree}
-use Rattle.pac_board_model.specs.Step.{Moment, Next}
+use Rattle.pac_board_model.proofs.Common.{Account, Act, Carries, Entry, Host, HostsAgree, List, Moment, Next, StepsAgree, []}
+use Rattle.pac_board_model.proofs.Common.{account_by_history, account_by_view, after_act, after_acts, ap, arith, board_after_entries}
+use Rattle.pac_board_model.proofs.Common.{common_steps, decodes-prefix, host_view, length-code, map, moment_view, next_view, put_now, refl}
+use Rattle.pac_board_model.proofs.Common.{rules, slice_index_or, sym, with_step, ℕ, ◌++◌, ◌∙◌, ◌∷◌, ◌≡◌}
 use Rattle.pac_board_model.proofs.Carried.{step-carried, play-step-carried}
 use Rattle.pac_board_model.proofs.Items.{view-carries}
 use Rattle.pac_board_model.proofs.Told.{view-tells}

@@ -1,11 +1,8 @@
 -- What a host's acts keep: a fact of the time and of the board, which no write, output, acceptance, reset or held input changes, and
 -- which the events of each moment carry on to the next. Moments that are kept have it, so going back to one has it too.
-use Rattle.std.proofs.Common.{rules, ◌≡◌, ℕ, zero, suc, ◌+◌, ◌<◌, ◌≤◌, true, List, [], ◌∷◌, ◌++◌, slice_index_or, sym, subst, ◌∙◌, arith}
-use Rattle.pac_map.specs.Entry.{Entry}
-use Rattle.pac_picture.specs.Tiles.{height}
-use Rattle.pac_board_model.specs.Host.{Act, Account, Host, with_step, after_act, after_acts, host_at, account_by_history}
-use Rattle.pac_board_model.specs.Laws.{HostsAreLineExact, line_moment}
-use Rattle.pac_board_model.specs.Step.{Moment, StepProgress, at_moment, step}
+use Rattle.pac_board_model.proofs.Common.{Account, Act, Entry, Host, HostsAreLineExact, List, Moment, StepProgress, [], account_by_history}
+use Rattle.pac_board_model.proofs.Common.{after_act, after_acts, arith, at_moment, height, host_at, line_moment, rules, slice_index_or}
+use Rattle.pac_board_model.proofs.Common.{step, subst, suc, sym, true, with_step, zero, ℕ, ◌++◌, ◌+◌, ◌<◌, ◌∙◌, ◌∷◌, ◌≡◌, ◌≤◌}
 use Rattle.pac_board_model.proofs.LinesComposed.{IsTold, compositions, nothing-told, quiet-kept, moment-kept, before-frame, shown-composed}
 use Rattle.pac_board_model.proofs.LinesComposed.{IsExact, standing-composed}
 use Rattle.pac_board_model.proofs.LinesPlaced.{IsPlaced, placed-at}

@@ -1,28 +1,12 @@
 -- Running a source's items is running the bytes of the ROM: items lie in it, it never changes, and a code is
 -- decoded to its instruction whatever follows.
-use Rattle.std.proofs.Common.{◌≡◌, ℕ, suc, ◌+◌, ◌%◌, ◌<◌, ◌≤◌, ◌==◌, List, [], ◌∷◌, Option, None, Bool, true, false, cond, rules, length}
-use Rattle.std.proofs.Common.{take, drop, slice_index, refl, sym, ◌∙◌, arith}
-use Rattle.std.proofs.lemmas.Bool.Decides.{nat_tests}
-use Rattle.std.proofs.lemmas.Grind.{same_number_lists, common_steps}
-use Rattle.std.proofs.lemmas.List.{get_or-take, length-take}
-use Rattle.std.proofs.lemmas.List.Elements.{recursion_from_All}
-use Rattle.std.specs.List.{AllByRecursion}
-use Rattle.std.specs.Option.{option_or}
-use Rattle.pac_cpu.specs.Instructions.{Instruction, IsInstruction, code, decoded_instruction}
-use Rattle.pac_cpu.specs.Encoding.{DecodesPrefix}
-use Rattle.pac_cpu.specs.PlacedItems.{Item, Content, Code, Data, IsValid, bytes_in, instruction_in, instruction_at, Lies, AllLie}
-use Rattle.pac_cpu.specs.Reads.{four_from}
-use Rattle.pac_map.specs.Place.{read_place}
-use Rattle.pac_map.specs.RomParts.{Parts, IsWhole, program_size}
-use Rattle.pac_map.specs.Entry.{Entry}
-use Rattle.pac_map.specs.View.{View}
-use Rattle.pac_map.specs.Contents.{read_of}
-use Rattle.pac_board_model.specs.BoardView.{BoardView, IsBoard}
-use Rattle.pac_board_model.specs.History.{board_after_entries}
-use Rattle.pac_board_model.specs.Shown.{sample_at}
-use Rattle.pac_board_model.specs.Trace.{item_in, by_history, by_view}
-use Rattle.pac_board_model.specs.CarriedProofs.{Carries}
-use Rattle.pac_board_model.specs.Laws.{TellsHistory}
+use Rattle.pac_board_model.proofs.Common.{AllByRecursion, AllLie, BoardView, Bool, Carries, Code, Content, Data, DecodesPrefix, Entry}
+use Rattle.pac_board_model.proofs.Common.{Instruction, IsBoard, IsInstruction, IsValid, IsWhole, Item, Lies, List, None, Option, Parts}
+use Rattle.pac_board_model.proofs.Common.{TellsHistory, View, [], arith, board_after_entries, by_history, by_view, bytes_in, code}
+use Rattle.pac_board_model.proofs.Common.{common_steps, cond, decoded_instruction, drop, false, four_from, get_or-take, instruction_at}
+use Rattle.pac_board_model.proofs.Common.{instruction_in, item_in, length, length-take, nat_tests, option_or, program_size, read_of}
+use Rattle.pac_board_model.proofs.Common.{read_place, recursion_from_All, refl, rules, same_number_lists, sample_at, slice_index, suc, sym}
+use Rattle.pac_board_model.proofs.Common.{take, true, ℕ, ◌%◌, ◌+◌, ◌<◌, ◌==◌, ◌∙◌, ◌∷◌, ◌≡◌, ◌≤◌}
 use Rattle.pac_board_model.proofs.Told.{view-answers, view-tells}
 
 -- a read k bytes after a cell of the ROM

@@ -1,18 +1,11 @@
 -- The latch that a history leaves in the view is the one that the history tells.
-use Rattle.std.proofs.lemmas.Grind.{common_steps}
-use Rattle.std.proofs.Common.{◌≡◌, ℕ, suc, ◌+◌, ◌≤◌, ◌==◌, min, Bool, true, false, cond, ◌||◌}
-use Rattle.std.proofs.Common.{List, [], ◌∷◌, replicate, slice_index_or, Option, Some, None, unwrap_or, refl, ap, ◌∙◌, arith, rules}
-use Rattle.std.proofs.lemmas.Bool.Decides.{nat_tests}
-use Rattle.pac_map.specs.Latched.{latch_place, is_latch_bit_set, watchdog_limit, latched_after_bit, interrupt_request}
+use Rattle.pac_board_model.proofs.Common.{Accept, Blank, Bool, BusPlace, Entry, Kick, Latch, List, None, Option, Reset, Some, Vector, View}
+use Rattle.pac_board_model.proofs.Common.{Write, [], ap, arith, bit_at, blanks_since, common_steps, cond, false, history_request}
+use Rattle.pac_board_model.proofs.Common.{interrupt_request, is_latch, is_latch_bit_set, is_requested, is_reset_due, is_set-others}
+use Rattle.pac_board_model.proofs.Common.{is_set-written, last_bit, last_vector, latch_place, latched_after_bit, lowest, min, nat_tests}
+use Rattle.pac_board_model.proofs.Common.{refl, replicate, rules, slice_index_or, suc, takes_back, true, unwrap_or, view_after_entries}
+use Rattle.pac_board_model.proofs.Common.{view_after_write, watchdog_limit, ℕ, ◌+◌, ◌==◌, ◌||◌, ◌∙◌, ◌∷◌, ◌≡◌, ◌≤◌}
 use Rattle.pac_map.specs.Latched as latch
-use Rattle.pac_map.proofs.LatchBits.{is_set-written, is_set-others}
-use Rattle.pac_map.specs.declared.bus_table.BusPlace.{BusPlace}
-use Rattle.pac_map.specs.declared.bus_table.BusPlace.TheVariants.{Latch, Kick}
-use Rattle.pac_map.specs.View.{View}
-use Rattle.pac_map.specs.Entry.{Entry, Write, Vector, Blank, Accept, Reset, view_after_write}
-use Rattle.pac_board_model.specs.HistoryProofs.{view_after_entries}
-use Rattle.pac_board_model.specs.Queries.{lowest, is_latch, last_bit, bit_at, last_vector, takes_back, is_requested, history_request}
-use Rattle.pac_board_model.specs.Queries.{blanks_since, is_reset_due}
 
 clear-at : (count place : ℕ) → slice_index_or (replicate count false) place false ≡ false
 clear-at count place = grind (arith, common_steps)

@@ -1,3 +1,4 @@
+pub mod Common
 pub mod Views
 pub mod Lists
 pub mod Latches

@@ -1,16 +1,7 @@
 -- The picture of the board that a history leaves has the lines that the history says.
-use Rattle.std.proofs.Common.{◌≡◌, ℕ, ◌<◌, ◌==◌, cond, rules}
-use Rattle.std.proofs.Common.{List, [], ◌∷◌, length, slice_index_or, slice_set, length-set, refl, sym, ◌∙◌, arith}
-use Rattle.std.proofs.lemmas.List.{ext_get_or}
-use Rattle.pac_map.specs.RomParts.{Parts}
-use Rattle.pac_picture.specs.Tiles.{height}
-use Rattle.pac_cpu.specs.Tabulate.{tabulate}
-use Rattle.pac_cpu.proofs.Tabulated.{length-tabulate, get_or-tabulate}
-use Rattle.pac_picture.specs.Picture.{picture_line}
-use Rattle.pac_map.specs.Entry.{Entry, Line}
-use Rattle.pac_board_model.specs.BoardView.{BoardView, IsBoard, video_roms, video_memory}
-use Rattle.pac_board_model.specs.History.{board_after_entries}
-use Rattle.pac_board_model.specs.Shown.{line_at}
+use Rattle.pac_board_model.proofs.Common.{BoardView, Entry, IsBoard, Line, List, Parts, [], arith, board_after_entries, cond, ext_get_or}
+use Rattle.pac_board_model.proofs.Common.{get_or-tabulate, height, length, length-set, length-tabulate, line_at, picture_line, refl, rules}
+use Rattle.pac_board_model.proofs.Common.{slice_index_or, slice_set, sym, tabulate, video_memory, video_roms, ℕ, ◌<◌, ◌==◌, ◌∙◌, ◌∷◌, ◌≡◌}
 use Rattle.pac_board_model.proofs.Memories.{video-memory-kept}
 
 pub lines-high : (set : Parts) (start : BoardView) (entries : List Entry) → IsBoard start

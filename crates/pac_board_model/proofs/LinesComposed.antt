@@ -1,21 +1,11 @@
 -- Each line of a frame's picture is composed at its own moment: when the frame's blank comes, the last composing of each line
 -- was for this frame.
-use Rattle.std.proofs.lemmas.Grind.{common_steps}
-use Rattle.std.proofs.Common.{◌≡◌, ℕ, suc, ◌+◌, ◌-◌, ◌/◌, ◌==◌, ◌<◌, ◌≤◌, if◌then◌else◌, Bool, true, false}
-use Rattle.std.proofs.Common.{List, [], ◌∷◌, ◌++◌, refl, sym, ap, subst, ◌∙◌, arith, rules}
-use Rattle.std.proofs.lemmas.Bool.Decides.{nat_tests}
-use Rattle.pac_cpu.specs.PlacedItems.{Item}
-use Rattle.pac_map.specs.RomParts.{Parts}
-use Rattle.pac_picture.specs.Tiles.{height}
-use Rattle.pac_cpu.proofs.Tabulated.{get_or-tabulate}
-use Rattle.pac_map.specs.Entry.{Entry, Sample, Line, Blank}
-use Rattle.pac_picture.specs.Picture.{picture_line}
-use Rattle.pac_board_model.specs.BoardView.{BoardView, power_on_board_view, video_roms}
-use Rattle.pac_board_model.specs.Laws.{IsComposed, PicturesAreLineExact, line_moment}
-use Rattle.pac_board_model.specs.Shown.{memory_at, line_at}
-use Rattle.pac_board_model.specs.Step.{Questions, StepProgress, sample_event, line_event, blank_event, at_moment, scan_line, scan_frame}
-use Rattle.pac_board_model.specs.Step.{sample_ticks, line_ticks, hidden_lines}
-use Rattle.pac_board_model.specs.Trace.{by_history}
+use Rattle.pac_board_model.proofs.Common.{Blank, BoardView, Bool, Entry, IsComposed, Item, Line, List, Parts, PicturesAreLineExact}
+use Rattle.pac_board_model.proofs.Common.{Questions, Sample, StepProgress, [], ap, arith, at_moment, blank_event, by_history, common_steps}
+use Rattle.pac_board_model.proofs.Common.{false, get_or-tabulate, height, hidden_lines, if◌then◌else◌, line_at, line_event, line_moment}
+use Rattle.pac_board_model.proofs.Common.{line_ticks, memory_at, nat_tests, picture_line, power_on_board_view, refl, rules, sample_event}
+use Rattle.pac_board_model.proofs.Common.{sample_ticks, scan_frame, scan_line, subst, suc, sym, true, video_roms, ℕ, ◌++◌, ◌+◌, ◌-◌, ◌/◌}
+use Rattle.pac_board_model.proofs.Common.{◌<◌, ◌==◌, ◌∙◌, ◌∷◌, ◌≡◌, ◌≤◌}
 use Rattle.pac_board_model.proofs.LinesPlaced.{IsPlaced, placed-later, placed-now, sampled-now}
 use Rattle.pac_board_model.proofs.RunsKeep.{is_quiet, ends_line, sampled-holds, lined-holds, run-told}
 

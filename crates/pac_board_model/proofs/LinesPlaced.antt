@@ -1,9 +1,7 @@
 -- Lines are composed at their own moments and at no others: each one among the entries comes right after its moment's sample.
-use Rattle.std.proofs.Common.{◌≡◌, ℕ, ◌-◌, ◌/◌, ◌<◌, ◌≤◌, if◌then◌else◌, Bool, true, false, rules, List, [], ◌∷◌, ◌++◌, refl, sym, arith}
-use Rattle.pac_map.specs.Entry.{Entry, Sample, Line}
-use Rattle.pac_picture.specs.Tiles.{height}
-use Rattle.pac_board_model.specs.Laws.{IsLineInTime, LinesHaveNoOtherMoments, line_moment}
-use Rattle.pac_board_model.specs.Step.{Questions, StepProgress, sample_event, scan_line, scan_frame, sample_ticks, hidden_lines}
+use Rattle.pac_board_model.proofs.Common.{Bool, Entry, IsLineInTime, Line, LinesHaveNoOtherMoments, List, Questions, Sample, StepProgress}
+use Rattle.pac_board_model.proofs.Common.{[], arith, false, height, hidden_lines, if◌then◌else◌, line_moment, refl, rules, sample_event}
+use Rattle.pac_board_model.proofs.Common.{sample_ticks, scan_frame, scan_line, sym, true, ℕ, ◌++◌, ◌-◌, ◌/◌, ◌<◌, ◌∷◌, ◌≡◌, ◌≤◌}
 use Rattle.pac_board_model.proofs.RunsKeep.{ends_line, with_line}
 
 pub line-placed : (moment : ℕ) → 1 ≤ moment → ends_line moment ≡ true

@@ -1,14 +1,9 @@
 -- RAM, attributes, coordinates and registers of the view as the lists that the history tells.
-use Rattle.std.proofs.Common.{◌≡◌, ℕ, ◌+◌, ◌-◌, ◌<◌, List, length, slice_index, drop, sym, ap, ◌∙◌, arith}
-use Rattle.std.proofs.lemmas.List.{ext_get_or, get_or-drop, length-drop}
-use Rattle.pac_map.specs.Place.{ram_size, coordinates_size, registers_size}
-use Rattle.pac_map.specs.View.{View, IsWellFormed, attributes_size}
+use Rattle.pac_board_model.proofs.Common.{Entry, IsWellFormed, List, View, ap, arith, attributes_size, colour_at, coordinate_at}
+use Rattle.pac_board_model.proofs.Common.{coordinates_size, drop, ext_get_or, get_or-drop, get_or-tabulate, history_registers, length}
+use Rattle.pac_board_model.proofs.Common.{length-drop, length-tabulate, ram_size, register_at, registers_size, slice_index, sym, tabulate}
+use Rattle.pac_board_model.proofs.Common.{tile_at, view_after_entries, work_at, ℕ, ◌+◌, ◌-◌, ◌<◌, ◌∙◌, ◌≡◌}
 use Rattle.pac_map.specs.View as view
-use Rattle.pac_map.specs.Entry.{Entry}
-use Rattle.pac_cpu.specs.Tabulate.{tabulate}
-use Rattle.pac_cpu.proofs.Tabulated.{length-tabulate, get_or-tabulate}
-use Rattle.pac_board_model.specs.HistoryProofs.{view_after_entries}
-use Rattle.pac_board_model.specs.History.{tile_at, colour_at, work_at, coordinate_at, register_at, history_registers}
 use Rattle.pac_board_model.proofs.Views.{view-of-well-formed, tile-viewed, colour-viewed, work-viewed, coordinate-viewed, register-viewed}
 
 -- a list of a known length is that of its elements by their places

@@ -1,13 +1,7 @@
 -- The memory of the board that a history leaves is the view that it leaves: samples and lines change nothing of it.
-use Rattle.std.proofs.Common.{◌≡◌, List, [], ◌∷◌, refl, ap, ◌∙◌}
-use Rattle.pac_map.specs.RomParts.{Parts}
-use Rattle.pac_map.specs.Entry.{Entry, Sample, Line, view_after}
-use Rattle.pac_map.specs.View.{IsWellFormed}
-use Rattle.pac_board_model.specs.BoardView.{BoardView, video_memory}
-use Rattle.pac_board_model.specs.History.{board_after_entries, history_registers}
-use Rattle.pac_board_model.specs.HistoryProofs.{view_after_entries}
-use Rattle.pac_board_model.specs.Queries.{bit_at}
-use Rattle.pac_board_model.specs.Shown.{memory_at, sound_enable, flip}
+use Rattle.pac_board_model.proofs.Common.{BoardView, Entry, IsWellFormed, Line, List, Parts, Sample, [], ap, bit_at, board_after_entries}
+use Rattle.pac_board_model.proofs.Common.{flip, history_registers, memory_at, refl, sound_enable, video_memory, view_after}
+use Rattle.pac_board_model.proofs.Common.{view_after_entries, ◌∙◌, ◌∷◌, ◌≡◌}
 use Rattle.pac_board_model.proofs.Latches.{bit-viewed}
 use Rattle.pac_board_model.proofs.Lists.{tile-listed, colour-listed, attributes-listed, coordinates-listed, registers-listed}
 

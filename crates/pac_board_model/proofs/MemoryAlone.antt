@@ -1,22 +1,8 @@
 -- Memory alone decides what a board does.
-use Rattle.std.proofs.Common.{◌≡◌, ℕ, ℤ, List, [], ◌∷◌, ap, ◌∙◌, sym, rules}
-use Rattle.std.specs.Option.{option_or}
-use Rattle.pac_cpu.specs.Instructions.{decoded_instruction}
-use Rattle.pac_cpu.specs.PlacedItems.{Item}
-use Rattle.pac_cpu.specs.Reads.{four_from}
-use Rattle.pac_map.specs.Entry.{Entry}
-use Rattle.pac_map.specs.Place.{read_place}
-use Rattle.pac_map.specs.RomParts.{Parts}
-use Rattle.pac_map.specs.View.{View}
-use Rattle.pac_board_model.specs.BoardView.{BoardView}
-use Rattle.pac_board_model.specs.CarriedProofs.{Carries}
-use Rattle.pac_board_model.specs.History.{read}
-use Rattle.pac_board_model.specs.MemoryLaws.{by_memory, MemoryWalksAlone, HistoryIsOfMemory, MemoryDecides}
-use Rattle.pac_board_model.specs.Output.{Image}
-use Rattle.pac_board_model.specs.Queries.{history_request, is_reset_due}
-use Rattle.pac_board_model.specs.Step.{Questions, Moment, step}
-use Rattle.pac_board_model.specs.Trace.{item_in, by_history, by_view}
-use Rattle.pac_board_model.specs.Walk.{walk}
+use Rattle.pac_board_model.proofs.Common.{BoardView, Carries, Entry, HistoryIsOfMemory, Image, Item, List, MemoryDecides, MemoryWalksAlone}
+use Rattle.pac_board_model.proofs.Common.{Moment, Parts, Questions, View, [], ap, by_history, by_memory, by_view, decoded_instruction}
+use Rattle.pac_board_model.proofs.Common.{four_from, history_request, is_reset_due, item_in, option_or, read, read_place, rules, step, sym}
+use Rattle.pac_board_model.proofs.Common.{walk, ℕ, ℤ, ◌∙◌, ◌∷◌, ◌≡◌}
 use Rattle.pac_board_model.proofs.Carried.{walk-carried, step-carried}
 use Rattle.pac_board_model.proofs.Muted.{with_other_outputs, muted_walk, walk-alike}
 

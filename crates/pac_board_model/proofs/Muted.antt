@@ -1,11 +1,7 @@
 -- What a board gives out acts on nothing: with other samples and other pictures it goes the same way.
-use Rattle.std.proofs.Common.{◌≡◌, ℕ, ℤ, zero, suc, [], ◌+◌, nat_le, Option, arith, rules, Bool, refl, ap, sym, ◌∙◌}
-use Rattle.pac_cpu.specs.declared.once.Stop.{Stop}
-use Rattle.pac_cpu.specs.Step.{CpuStep, cpu_step}
-use Rattle.pac_board_model.specs.Output.{Image}
-use Rattle.pac_board_model.specs.Step.{Questions, Moment, StepProgress, Next, Goes, Ends, surroundings, at_moment, through, after_cpu_step}
-use Rattle.pac_board_model.specs.Step.{step}
-use Rattle.pac_board_model.specs.Walk.{Walk, walk, walk_onward, onward_if, walk_after_step}
+use Rattle.pac_board_model.proofs.Common.{Bool, CpuStep, Ends, Goes, Image, Moment, Next, Option, Questions, StepProgress, Stop, Walk, []}
+use Rattle.pac_board_model.proofs.Common.{after_cpu_step, ap, arith, at_moment, cpu_step, nat_le, onward_if, refl, rules, step, suc}
+use Rattle.pac_board_model.proofs.Common.{surroundings, sym, through, walk, walk_after_step, walk_onward, zero, ℕ, ℤ, ◌+◌, ◌∙◌, ◌≡◌}
 
 -- any board that sounds and shows something else
 abbrev pub with_other_outputs : {Board : Type 0} → Questions Board → (Board → ℤ) → (Board → Image) → Questions Board

@@ -1,18 +1,8 @@
 -- What a run gives out is what its history says: each sample, each picture, and how many of them by when.
-use Rattle.std.proofs.lemmas.Grind.{common_steps}
-use Rattle.std.proofs.Common.{◌≡◌, ◌≢◌, ℕ, suc, ◌/◌, ◌%◌, true, List, [], ◌∷◌, ◌++◌, refl, sym, ap, ◌∙◌, append_assoc, arith}
-use Rattle.std.proofs.lemmas.List.{append-nil}
-use Rattle.pac_cpu.specs.PlacedItems.{Item}
-use Rattle.pac_map.specs.RomParts.{Parts}
-use Rattle.pac_map.specs.Entry.{Entry}
-use Rattle.pac_board_model.specs.BoardView.{BoardView, power_on_board_view}
-use Rattle.pac_board_model.specs.Laws.{OutputsAreOfTheHistory, OutputsAreTimed}
-use Rattle.pac_board_model.specs.Output.{Output}
-use Rattle.pac_board_model.specs.Resumed.{ResumedOutputsAreOfTheHistory}
-use Rattle.pac_board_model.specs.ShownLaws.{history_outputs, sample_count}
-use Rattle.pac_board_model.specs.Shown.{blank_count}
-use Rattle.pac_board_model.specs.Step.{Questions, StepProgress, at_moment, sample_ticks, frame_ticks}
-use Rattle.pac_board_model.specs.Trace.{by_history}
+use Rattle.pac_board_model.proofs.Common.{BoardView, Entry, Item, List, Output, OutputsAreOfTheHistory, OutputsAreTimed, Parts, Questions}
+use Rattle.pac_board_model.proofs.Common.{ResumedOutputsAreOfTheHistory, StepProgress, [], ap, append-nil, append_assoc, arith, at_moment}
+use Rattle.pac_board_model.proofs.Common.{blank_count, by_history, common_steps, frame_ticks, history_outputs, power_on_board_view, refl}
+use Rattle.pac_board_model.proofs.Common.{sample_count, sample_ticks, suc, sym, true, ℕ, ◌%◌, ◌++◌, ◌/◌, ◌∙◌, ◌∷◌, ◌≡◌, ◌≢◌}
 use Rattle.pac_board_model.proofs.RunsKeep.{is_quiet, sampled-holds, lined-holds, blanked-holds, run-told, resumed-told}
 use Rattle.pac_board_model.proofs.Walks.{not-both}
 

@@ -1,19 +1,11 @@
 -- A play that is taken up at any moment: its run ends; from power-on it is the trace; and two plays one after another are both at once.
-use Rattle.std.proofs.Common.{◌≡◌, ℕ, zero, suc, ◌+◌, ◌-◌, ◌*◌, ◌/◌, ◌==◌, if◌then◌else◌, ◌<◌, ◌≤◌, ◌⊎◌, inl, inr, None, Some, rules}
-use Rattle.std.proofs.Common.{Bool, true, false, nat_le, List, ◌++◌, refl, sym, ap, ◌∙◌, arith}
-use Rattle.std.proofs.lemmas.Bool.Decides.{nat_tests}
-use Rattle.pac_cpu.specs.declared.once.Stop.{Stop}
-use Rattle.pac_cpu.specs.Instructions.{most_ticks}
-use Rattle.pac_map.specs.Entry.{Hold}
-use Rattle.pac_board_model.specs.Laws.{IsTimely}
-use Rattle.pac_board_model.specs.Output.{Output}
-use Rattle.pac_board_model.specs.Resumed.{RunsBegin, ResumedRunsEnd, JoinsPlays, LastIsHeld, RunsAreContinued, PlaysJoin, StoppedRunsStay}
-use Rattle.pac_board_model.specs.Step.{Questions, Moment, Next, Goes, Ends, frame_ticks}
-use Rattle.pac_board_model.specs.Trace.{Play, by_view, moment_with_inputs, next_with_inputs, play_step, power_on_moment, frame_steps}
-use Rattle.pac_board_model.specs.Trace.{run_at, frames_gone, resumed_start, resumed_step, resumed_end, resumed}
-use Rattle.pac_board_model.specs.TraceLaws.{resumed_at, plays_joined}
-use Rattle.pac_board_model.specs.Walk.{Walk, walk, walk_to, walk_at_start, walk_onward, walk_after_step}
-use Rattle.pac_board_model.specs.WalkLaws.{has_ended}
+use Rattle.pac_board_model.proofs.Common.{Bool, Ends, Goes, Hold, IsTimely, JoinsPlays, LastIsHeld, List, Moment, Next, None, Output, Play}
+use Rattle.pac_board_model.proofs.Common.{PlaysJoin, Questions, ResumedRunsEnd, RunsAreContinued, RunsBegin, Some, Stop, StoppedRunsStay}
+use Rattle.pac_board_model.proofs.Common.{Walk, ap, arith, by_view, false, frame_steps, frame_ticks, frames_gone, has_ended, if◌then◌else◌}
+use Rattle.pac_board_model.proofs.Common.{inl, inr, moment_with_inputs, most_ticks, nat_le, nat_tests, next_with_inputs, play_step}
+use Rattle.pac_board_model.proofs.Common.{plays_joined, power_on_moment, refl, resumed, resumed_at, resumed_end, resumed_start}
+use Rattle.pac_board_model.proofs.Common.{resumed_step, rules, run_at, suc, sym, true, walk, walk_after_step, walk_at_start, walk_onward}
+use Rattle.pac_board_model.proofs.Common.{walk_to, zero, ℕ, ◌*◌, ◌++◌, ◌+◌, ◌-◌, ◌/◌, ◌<◌, ◌==◌, ◌∙◌, ◌≡◌, ◌≤◌, ◌⊎◌}
 use Rattle.pac_board_model.proofs.Runs.{walk-below}
 use Rattle.pac_board_model.proofs.Walks.{stopped-has-ended, late-has-ended, open-is-late, going-far, ended-stays, going-steps}
 use Rattle.pac_board_model.proofs.Walks.{walk-ends, walk-to-ends, ended-whole, joined, on-the-way, walks-joined, stopped-is-early}

@@ -1,9 +1,8 @@
 -- The samples and the pictures of a play that is taken up at any moment: how many have come by when.
-use Rattle.std.proofs.Common.{◌≡◌, ℕ, suc, ◌+◌, ◌/◌, ◌%◌, List, [], ◌∷◌, ◌++◌, refl, sym, ap, ◌∙◌, append_assoc, arith, rules}
-use Rattle.pac_board_model.specs.Output.{Output, Sound, Show, sound_count, picture_count}
-use Rattle.pac_board_model.specs.Resumed.{ResumedRunsAreTimed, ResumedRunsHaveTheirFrames}
-use Rattle.pac_board_model.specs.Step.{Questions, StepProgress, sample_event, line_event, at_moment, sample_ticks, frame_ticks}
-use Rattle.pac_board_model.specs.Trace.{frames_gone, resumed_end}
+use Rattle.pac_board_model.proofs.Common.{List, Output, Questions, ResumedRunsAreTimed, ResumedRunsHaveTheirFrames, Show, Sound}
+use Rattle.pac_board_model.proofs.Common.{StepProgress, [], ap, append_assoc, arith, at_moment, frame_ticks, frames_gone, line_event}
+use Rattle.pac_board_model.proofs.Common.{picture_count, refl, resumed_end, rules, sample_event, sample_ticks, sound_count, suc, sym, ℕ}
+use Rattle.pac_board_model.proofs.Common.{◌%◌, ◌++◌, ◌+◌, ◌/◌, ◌∙◌, ◌∷◌, ◌≡◌}
 use Rattle.pac_board_model.proofs.Outputs.{sample-lasts, frame-ends, frame-lasts}
 use Rattle.pac_board_model.proofs.Resumed.{resumed-below, resumed-gone}
 use Rattle.pac_board_model.proofs.RunsKeep.{sampled-holds, lined-holds, blanked-holds, resumed-told}

@@ -1,14 +1,9 @@
 -- Runs: they end, and they are their frames, one played after another.
-use Rattle.std.proofs.Common.{◌≡◌, ℕ, zero, suc, ◌+◌, ◌*◌, if◌then◌else◌, ◌<◌, ◌≤◌, Option, None, Some, Bool, true, false}
-use Rattle.std.proofs.Common.{nat_le, refl, ap, ◌∙◌, arith, rules}
-use Rattle.pac_cpu.specs.declared.once.Stop.{Stop}
-use Rattle.pac_cpu.specs.Instructions.{most_ticks}
-use Rattle.pac_map.specs.Entry.{Hold}
-use Rattle.pac_board_model.specs.Laws.{IsTimely, RunsEnd, RunsAreJoined, RunsGoByFrames, with_frame, next_frame}
-use Rattle.pac_board_model.specs.Step.{Questions, Moment, Next, frame_ticks, step}
-use Rattle.pac_board_model.specs.Trace.{Play, moment_with_inputs, play_step, power_on_moment, trace, frame_steps}
-use Rattle.pac_board_model.specs.Walk.{Walk, walk, walk_to, walk_onward, onward_if}
-use Rattle.pac_board_model.specs.WalkLaws.{has_ended}
+use Rattle.pac_board_model.proofs.Common.{Bool, Hold, IsTimely, Moment, Next, None, Option, Play, Questions, RunsAreJoined, RunsEnd}
+use Rattle.pac_board_model.proofs.Common.{RunsGoByFrames, Some, Stop, Walk, ap, arith, false, frame_steps, frame_ticks, has_ended}
+use Rattle.pac_board_model.proofs.Common.{if◌then◌else◌, moment_with_inputs, most_ticks, nat_le, next_frame, onward_if, play_step}
+use Rattle.pac_board_model.proofs.Common.{power_on_moment, refl, rules, step, suc, trace, true, walk, walk_onward, walk_to, with_frame}
+use Rattle.pac_board_model.proofs.Common.{zero, ℕ, ◌*◌, ◌+◌, ◌<◌, ◌∙◌, ◌≡◌, ◌≤◌}
 use Rattle.pac_board_model.proofs.Walks.{stopped-has-ended, open-is-late, going-far, ended-same}
 use Rattle.pac_board_model.proofs.Walks.{walk-ends, walk-to-ends, goes-on, joined, on-the-way, outputs-prefix, step-timely, play-timely}
 

@@ -1,23 +1,14 @@
 -- What every run keeps: a fact of the time, of what was given out so far and of the board, which no write, output, acceptance,
 -- reset or held input changes, and which the events of each moment carry on to the next.
-use Rattle.std.proofs.lemmas.Grind.{common_steps}
-use Rattle.std.proofs.Common.{fold, ◌≡◌, ◌≢◌, ℕ, zero, suc, ◌+◌, ◌-◌, ◌/◌, ◌%◌, ◌==◌, if◌then◌else◌, Option, Bool, true, false, nat_le}
-use Rattle.std.proofs.Common.{◌&&◌, List, [], ◌∷◌, ◌++◌, refl, arith, rules}
-use Rattle.std.proofs.lemmas.Bool.Decides.{nat_tests}
-use Rattle.std.proofs.lemmas.List.{append-nil}
-use Rattle.pac_cpu.specs.Action.{Action, Write as Written, Output as Sent}
-use Rattle.pac_cpu.specs.declared.once.StepKind.{StepKind}
-use Rattle.pac_cpu.specs.declared.once.Stop.{Stop}
-use Rattle.pac_cpu.specs.Step.{CpuStep, cpu_step}
-use Rattle.pac_map.specs.Entry.{Entry, Write, Vector, Sample, Line, Blank}
-use Rattle.pac_map.specs.Place.{write_place}
-use Rattle.pac_board_model.specs.Output.{Output, Sound, Show}
-use Rattle.pac_board_model.specs.Step.{Questions, Moment, StepProgress, Next, Goes, Ends, put_actions, put_kind, at_moment, through}
-use Rattle.pac_board_model.specs.Step.{surroundings, after_cpu_step, step, note, give, sample_event, line_event, reset_event, blank_event}
-use Rattle.pac_board_model.specs.Step.{scan_line, scan_frame, sample_ticks, line_ticks, frame_ticks, hidden_lines}
-use Rattle.pac_board_model.specs.Trace.{Play, next_with_inputs, play_step, run_at}
-use Rattle.pac_board_model.specs.TraceLaws.{resumed_at}
-use Rattle.pac_board_model.specs.Walk.{Walk, walk, onward_if, walk_after_step}
+use Rattle.pac_board_model.proofs.Common.{Action, Blank, Bool, CpuStep, Ends, Entry, Goes, Line, List, Moment, Next, Option, Output, Play}
+use Rattle.pac_board_model.proofs.Common.{Questions, Sample, Show, Sound, StepKind, StepProgress, Stop, Vector, Walk, Write, []}
+use Rattle.pac_board_model.proofs.Common.{after_cpu_step, append-nil, arith, at_moment, blank_event, common_steps, cpu_step, false, fold}
+use Rattle.pac_board_model.proofs.Common.{frame_ticks, give, hidden_lines, if◌then◌else◌, line_event, line_ticks, nat_le, nat_tests}
+use Rattle.pac_board_model.proofs.Common.{next_with_inputs, note, onward_if, play_step, put_actions, put_kind, refl, reset_event}
+use Rattle.pac_board_model.proofs.Common.{resumed_at, rules, run_at, sample_event, sample_ticks, scan_frame, scan_line, step, suc}
+use Rattle.pac_board_model.proofs.Common.{surroundings, through, true, walk, walk_after_step, write_place, zero, ℕ, ◌%◌, ◌&&◌, ◌++◌, ◌+◌}
+use Rattle.pac_board_model.proofs.Common.{◌-◌, ◌/◌, ◌==◌, ◌∷◌, ◌≡◌, ◌≢◌}
+use Rattle.pac_cpu.specs.Action.{Write as Written, Output as Sent}
 
 -- whether an entry is none of the three that the clock makes
 abbrev pub is_quiet : Entry → Bool

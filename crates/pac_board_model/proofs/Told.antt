@@ -1,9 +1,7 @@
 -- The board that a history leaves tells all that the history does.
-use Rattle.std.proofs.Common.{ap, ◌∙◌, slice_index, arith}
-use Rattle.pac_map.specs.Latched.{is_latch_bit_set, interrupt_request}
+use Rattle.pac_board_model.proofs.Common.{ViewAnswers, ViewTells, ap, arith, interrupt_request, is_latch_bit_set, slice_index, ◌∙◌}
 use Rattle.pac_map.specs.Latched as latch
 use Rattle.pac_map.specs.View as view
-use Rattle.pac_board_model.specs.Laws.{ViewAnswers, ViewTells}
 use Rattle.pac_board_model.proofs.Views.{read-viewed, tile-viewed, colour-viewed, work-viewed, held-viewed}
 use Rattle.pac_board_model.proofs.Lists.{attributes-listed, coordinates-listed}
 use Rattle.pac_board_model.proofs.Latches.{bit-viewed, vector-viewed, request-viewed, count-viewed, due-viewed}

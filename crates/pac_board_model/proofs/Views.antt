@@ -1,18 +1,10 @@
 -- The view that a history leaves answers as the history does.
-use Rattle.std.proofs.Common.{◌≡◌, ℕ, ◌<◌, List, [], ◌∷◌, Bool, rules}
-use Rattle.std.proofs.Common.{cond, Option, Some, unwrap_or, refl, sym, ◌∙◌, slice_index, length, arith}
-use Rattle.pac_map.specs.declared.bus_table.BusPlace.{BusPlace}
-use Rattle.pac_map.specs.declared.bus_table.BusPlace.TheVariants.{Tile, Colour, Work, Wave, Coordinate}
-use Rattle.pac_map.specs.Place.{read_place, ram_size, coordinates_size, registers_size}
-use Rattle.pac_map.specs.PlaceProofs.{IsPlaceInRange}
-use Rattle.pac_map.specs.Lookups.{answer}
-use Rattle.pac_map.specs.Entry.{Entry, Write, Hold, view_after_write}
-use Rattle.pac_map.specs.View.{View, IsWellFormed, kept_nibble}
-use Rattle.pac_map.specs.Contents.{lookups_of, read_of}
-use Rattle.pac_map.proofs.WellFormed.{view-after-well-formed}
-use Rattle.pac_board_model.specs.History.{is_same_place, tile_at, colour_at, work_at, last_held, history_lookups, read}
-use Rattle.pac_board_model.specs.History.{coordinate_at, register_at}
-use Rattle.pac_board_model.specs.HistoryProofs.{view_after_entries}
+use Rattle.pac_board_model.proofs.Common.{Bool, BusPlace, Colour, Coordinate, Entry, Hold, IsPlaceInRange, IsWellFormed, List, Option, Some}
+use Rattle.pac_board_model.proofs.Common.{Tile, View, Wave, Work, Write, [], answer, arith, colour_at, cond, coordinate_at}
+use Rattle.pac_board_model.proofs.Common.{coordinates_size, history_lookups, is_same_place, kept_nibble, last_held, length, lookups_of}
+use Rattle.pac_board_model.proofs.Common.{ram_size, read, read_of, read_place, refl, register_at, registers_size, rules, slice_index, sym}
+use Rattle.pac_board_model.proofs.Common.{tile_at, unwrap_or, view-after-well-formed, view_after_entries, view_after_write, work_at, ℕ, ◌<◌}
+use Rattle.pac_board_model.proofs.Common.{◌∙◌, ◌∷◌, ◌≡◌}
 
 pub view-of-well-formed : (start : View) (entries : List Entry) → IsWellFormed start → IsWellFormed (view_after_entries start entries)
 view-of-well-formed start [] sized = sized
@@ -63,7 +55,8 @@ colour-viewed start (entry ∷ older) cell well lt = colour-viewed start older c
 pub work-viewed : (start : View) (entries : List Entry) (cell : ℕ) → IsWellFormed start → cell < ram_size
     → slice_index (view_after_entries start entries).work cell ≡ work_at start entries cell
 work-viewed start [] cell well lt = refl
-work-viewed start (Write to byte ∷ older) cell well lt = let sized = (view-of-well-formed _ older well).work in grind (arith, decided, work-written, work-viewed start older cell well lt)
+work-viewed start (Write to byte ∷ older) cell well lt = let sized = (view-of-well-formed _ older well).work in
+    grind (arith, decided, work-written, work-viewed start older cell well lt)
 work-viewed start (entry ∷ older) cell well lt = work-viewed start older cell well lt
 
 pub coordinate-viewed : (start : View) (entries : List Entry) (place : ℕ) → IsWellFormed start → place < coordinates_size

@@ -1,13 +1,8 @@
 -- The voices of the board that a history leaves stand where the sums over its samples say.
-use Rattle.std.proofs.Common.{◌≡◌, ℕ, ◌+◌, ◌%◌, ◌^◌, ◌<◌, Bool, cond, List, [], ◌∷◌, ◌∙◌, arith, rules}
-use Rattle.pac_map.specs.RomParts.{Parts}
-use Rattle.pac_wave.specs.declared.Voice.{Voice}
-use Rattle.pac_wave.specs.Wave.{Accumulators, Fit20Bits, accumulator, frequency, accumulators_after}
-use Rattle.pac_map.specs.Entry.{Entry, Sample}
-use Rattle.pac_board_model.specs.BoardView.{BoardView, IsBoard}
-use Rattle.pac_board_model.specs.History.{board_after_entries, history_registers}
-use Rattle.pac_board_model.specs.Queries.{bit_at}
-use Rattle.pac_board_model.specs.Shown.{history_growth, accumulator_at, sound_enable}
+use Rattle.pac_board_model.proofs.Common.{Accumulators, BoardView, Bool, Entry, Fit20Bits, IsBoard, List, Parts, Sample, Voice, []}
+use Rattle.pac_board_model.proofs.Common.{accumulator, accumulator_at, accumulators_after, arith, bit_at, board_after_entries, cond}
+use Rattle.pac_board_model.proofs.Common.{frequency, history_growth, history_registers, rules, sound_enable, ℕ, ◌%◌, ◌+◌, ◌<◌, ◌^◌, ◌∙◌}
+use Rattle.pac_board_model.proofs.Common.{◌∷◌, ◌≡◌}
 use Rattle.pac_board_model.proofs.Memories.{registers-kept, sound-kept}
 
 -- a voice after a sample

@@ -1,10 +1,6 @@
 -- The samples and the pictures of a walk: how many have come by when, and how far it goes.
-use Rattle.std.proofs.Common.{◌≡◌, ℕ, ◌+◌, ◌/◌, ◌≤◌, ap, arith}
-use Rattle.pac_cpu.specs.Instructions.{most_ticks}
-use Rattle.pac_board_model.specs.Laws.{WalksAreTimed}
-use Rattle.pac_board_model.specs.Output.{sound_count, picture_count}
-use Rattle.pac_board_model.specs.Step.{Questions, Moment, sample_ticks, frame_ticks, step}
-use Rattle.pac_board_model.specs.Walk.{walk, walk_at_start}
+use Rattle.pac_board_model.proofs.Common.{Moment, Questions, WalksAreTimed, ap, arith, frame_ticks, most_ticks, picture_count, sample_ticks}
+use Rattle.pac_board_model.proofs.Common.{sound_count, step, walk, walk_at_start, ℕ, ◌+◌, ◌/◌, ◌≡◌, ◌≤◌}
 use Rattle.pac_board_model.proofs.ResumedTimes.{moment-sounds, moment-pictures}
 use Rattle.pac_board_model.proofs.Runs.{walk-below}
 use Rattle.pac_board_model.proofs.RunsKeep.{plain-walk-told}

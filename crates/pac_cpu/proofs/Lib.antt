@@ -1,3 +1,4 @@
+pub mod Common
 pub mod CpuSteps
 pub mod Views
 pub mod RestOnReads

@@ -1,15 +1,8 @@
 -- Block instructions as one equation each.
-use Rattle.std.proofs.Common.{ℕ, ◌∙◌, ◌-◌, ◌==◌, nat_lt, not, [], arith, ◌≡◌, ◌+◌, ◌%◌, Bool, true, false, List, Some, refl, ap}
-use Rattle.std.specs.Prelude.{if◌then◌else◌}
-use Rattle.pac_table.specs.Table.{table}
-use Rattle.pac_table.specs.Instructions.{row_at, row_of}
-use Rattle.pac_bus.specs.Action.{Action}
-use Rattle.pac_alu.specs.Transfer.{copy_flags_of, search_flags_of, port_flags_of}
-use Rattle.pac_alu.specs.Flags.{flags_of, flag_byte_of, is_negative}
-use Rattle.pac_exec.specs.declared.regs.Regs.{Regs}
-use Rattle.pac_exec.specs.Registers.{bc, hl, with_bc, with_hl}
-use Rattle.pac_exec.specs.Effect.{effect_by}
-use Rattle.pac_cpu_vectors.specs.Manual.{up, down, done_again_if, CopiesBlocks, SearchesBlocks, InputsBlocks, OutputsBlocks}
+use Rattle.pac_cpu_vectors.proofs.Common.{Action, Bool, CopiesBlocks, InputsBlocks, List, OutputsBlocks, Regs, SearchesBlocks, Some, [], ap}
+use Rattle.pac_cpu_vectors.proofs.Common.{arith, bc, copy_flags_of, done_again_if, down, effect_by, false, flag_byte_of, flags_of, hl}
+use Rattle.pac_cpu_vectors.proofs.Common.{if◌then◌else◌, is_negative, nat_lt, not, port_flags_of, refl, row_at, row_of, search_flags_of}
+use Rattle.pac_cpu_vectors.proofs.Common.{table, true, up, with_bc, with_hl, ℕ, ◌%◌, ◌+◌, ◌-◌, ◌==◌, ◌∙◌, ◌≡◌}
 
 -- a choice between two transitions that differ in PC and in time is one of these
 again-in-fields : (again : Bool) (regs : Regs) (actions : List Action)

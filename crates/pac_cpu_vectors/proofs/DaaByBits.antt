@@ -1,11 +1,7 @@
 -- DAA by the bits of its correction: computed for each A with each N, C and H, since F says no more to it.
-use Rattle.std.proofs.Common.{◌≡◌, ℕ, ◌<◌, Bool, true, false, List, get_or, refl, sym, ap, ◌∙◌}
-use Rattle.pac_num.specs.Tabulate.{tabulate}
-use Rattle.pac_num.proofs.Tabulated.{get_or-tabulate}
-use Rattle.pac_alu.specs.declared.flag_byte.Flags.{Flags}
-use Rattle.pac_alu.specs.Flags.{flags_of}
-use Rattle.pac_alu.specs.Arithmetic.{decimal_of, adjusted_of, adjusted_half_carry, corrects_high}
-use Rattle.pac_cpu_vectors.specs.Decimals.{Adjusted, adjusted_by_bits, with_adjusted, EachDaaIsByBits}
+use Rattle.pac_cpu_vectors.proofs.Common.{Adjusted, Bool, EachDaaIsByBits, Flags, List, adjusted_by_bits, adjusted_half_carry, adjusted_of}
+use Rattle.pac_cpu_vectors.proofs.Common.{ap, corrects_high, decimal_of, false, flags_of, get_or, get_or-tabulate, refl, sym, tabulate}
+use Rattle.pac_cpu_vectors.proofs.Common.{true, with_adjusted, ℕ, ◌<◌, ◌∙◌, ◌≡◌}
 
 -- what the definition of DAA comes to
 abbrev adjusted_as_defined : ℕ → Flags → Adjusted

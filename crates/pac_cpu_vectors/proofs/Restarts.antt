@@ -1,10 +1,6 @@
 -- Which vector bytes mode 0 takes: computed for each byte.
-use Rattle.std.proofs.Common.{◌≡◌, ℕ, Bool, false, ◌==◌, List, get_or, refl, sym, ap, ◌∙◌}
-use Rattle.std.specs.List.{list_any}
-use Rattle.pac_num.specs.Tabulate.{tabulate}
-use Rattle.pac_num.proofs.Tabulated.{get_or-tabulate}
-use Rattle.pac_cpu.specs.Step.{is_restart}
-use Rattle.pac_cpu_vectors.specs.Manual.{restart_codes, OnlyTheseAreRestarts}
+use Rattle.pac_cpu_vectors.proofs.Common.{Bool, List, OnlyTheseAreRestarts, ap, false, get_or, get_or-tabulate, is_restart, list_any, refl}
+use Rattle.pac_cpu_vectors.proofs.Common.{restart_codes, sym, tabulate, ℕ, ◌==◌, ◌∙◌, ◌≡◌}
 
 abbrev is_listed : ℕ → Bool
 is_listed byte = list_any (λ code. code == byte) restart_codes

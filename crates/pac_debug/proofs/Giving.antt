@@ -1,30 +1,14 @@
 -- What lines give to a sink, whatever they ask: what was due, and what the run gives from one furthest index to the next.
-use Rattle.std.proofs.Common.{◌≡◌, ℕ, ◌+◌, ◌≤◌, Bool, Option, None, Some, Result, Ok, Err, max, List, [], ◌∷◌, ◌++◌, ◌⊎◌}
-use Rattle.std.proofs.Common.{refl, sym, ap, ◌∙◌, append_assoc, arith, rules}
+use Rattle.pac_debug.proofs.Common.{Answer, AnswersBack, AnswersReturn, Asks, Bool, Command, CommandFault, Cut, Err, GaveAll, GaveSome}
+use Rattle.pac_debug.proofs.Common.{Giving, IsCommandDone, IsCommandObeyed, IsCommandPerformed, IsCommandRefused, IsFinishRefused}
+use Rattle.pac_debug.proofs.Common.{IsFurther, IsSessionOfferRefused, LinesGive, List, Motion, NoCommand, None, ObeysLines, Ok, Option}
+use Rattle.pac_debug.proofs.Common.{Output, Result, Scene, SessionValue, SetsBreakpoint, Setting, Some, Stays, TookAll, [], ap}
+use Rattle.pac_debug.proofs.Common.{append_assoc, arith, between-joined, between-self, command_of, cut-after, cut-along, due_outputs_in}
+use Rattle.pac_debug.proofs.Common.{joined-to-end, max, nothing_due, now_at, outputs_between, outputs_from, outputs_to_give, outputs_until}
+use Rattle.pac_debug.proofs.Common.{refl, rules, session_at_command, session_due_outputs, session_without_due, sym, took-both, ℕ, ◌++◌, ◌+◌}
+use Rattle.pac_debug.proofs.Common.{◌∙◌, ◌∷◌, ◌≡◌, ◌≤◌, ◌⊎◌}
 use mathlib.Core.Logic.{inl, inr}
-use Rattle.pac_board.specs.Output.{Output}
-use Rattle.pac_board.specs.SinksLaws.{Giving, Cut}
-use Rattle.pac_board.specs.Sinks.{TookAll}
-use Rattle.pac_board.specs.State.{nothing_due, due_outputs_in}
-use Rattle.pac_board.proofs.Sinks.{took-both, cut-along, cut-after}
-use Rattle.pac_debug_text.specs.declared.command.Command.{Command}
-use Rattle.pac_debug_text.specs.declared.command.NoCommand.{NoCommand}
-use Rattle.pac_debug_text.specs.Commands.{command_of}
-use Rattle.pac_debug_session.specs.declared.motion.Motion.{Motion}
-use Rattle.pac_debug_session.specs.MotionsLaws.{IsFinishRefused}
-use Rattle.pac_debug_session.specs.Running.{Setting, now_at, outputs_between}
-use Rattle.pac_debug_session.specs.RunningLaws.{outputs_from}
-use Rattle.pac_debug_session.specs.Session.{SessionValue}
-use Rattle.pac_debug_session.specs.SessionLaws.{IsSessionOfferRefused, session_at_command, session_due_outputs}
-use Rattle.pac_debug_session.proofs.Forwards.{between-joined, between-self, joined-to-end}
-use Rattle.pac_debug.specs.declared.answer.Answer.{Answer}
-use Rattle.pac_debug.specs.declared.line.CommandFault.{CommandFault}
 use Rattle.pac_debug.specs.declared.line.CommandFault.TheVariants as faults
-use Rattle.pac_debug.specs.Obeying.{AnswersBack, AnswersReturn, SetsBreakpoint, Stays, IsCommandPerformed, IsCommandObeyed}
-use Rattle.pac_debug.specs.ObeyingLaws.{IsCommandDone, IsCommandRefused, Scene, Asks, ObeysLines}
-use Rattle.pac_debug.specs.Obeying.{session_without_due}
-use Rattle.pac_debug.specs.WatchedLaws.{IsFurther, GaveAll, GaveSome, outputs_until, outputs_to_give}
-use Rattle.pac_debug.specs.WatchedProofs.{LinesGive}
 
 -- ---- commands that don't move on
 

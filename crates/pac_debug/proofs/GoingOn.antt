@@ -1,26 +1,11 @@
 -- Lines that go on after one that wasn't answered: where they leave the session, and what the file took.
-use Rattle.std.proofs.Common.{◌≡◌, ℕ, ◌<◌, true, Option, None, Some, Result, Ok, Err, List, [], ◌∷◌, ◌++◌, length, rules}
-use Rattle.std.proofs.Common.{refl, sym, ap, subst, ◌∙◌, append_assoc, arith}
-use Rattle.std.proofs.lemmas.List.{append_cancel_left}
+use Rattle.pac_debug.proofs.Common.{AnswersEach, AreDoneInTurn, ComesTo, Command, Commands, Counted, EndIn, Err, Giving, GoesIntoFile}
+use Rattle.pac_debug.proofs.Common.{IsHeldUp, IsHeldUpAfter, IsHeldUpAt, IsLineAnswered, LeavesLine, LineAnswer, List, Motion, NoCommand}
+use Rattle.pac_debug.proofs.Common.{None, NoneIsTold, Ok, Option, Output, RefusedOf, Result, Scene, SessionValue, Some, TextsAreLines, []}
+use Rattle.pac_debug.proofs.Common.{ap, append_assoc, append_cancel_left, arith, between-joined, command_of, length, outputs_between, refl}
+use Rattle.pac_debug.proofs.Common.{rests, rules, session_due_outputs, session_without_due, subst, sym, true, ℕ, ◌++◌, ◌<◌, ◌∙◌, ◌∷◌, ◌≡◌}
 use mathlib.Core.Logic.{inl, inr}
-use Rattle.pac_board.specs.Output.{Output}
-use Rattle.pac_board.specs.SinksLaws.{Giving}
-use Rattle.pac_out.specs.declared.counted.Counted.{Counted}
-use Rattle.pac_debug_text.specs.declared.command.Command.{Command}
-use Rattle.pac_debug_text.specs.declared.command.NoCommand.{NoCommand}
-use Rattle.pac_debug_text.specs.Commands.{command_of}
-use Rattle.pac_debug_session.specs.declared.motion.Motion.{Motion}
-use Rattle.pac_debug_session.specs.Motions.{rests}
-use Rattle.pac_debug_session.specs.Running.{outputs_between}
-use Rattle.pac_debug_session.specs.Session.{SessionValue}
-use Rattle.pac_debug_session.specs.SessionLaws.{session_due_outputs}
-use Rattle.pac_debug_session.proofs.Forwards.{between-joined}
 use Rattle.pac_debug.specs.declared.line.CommandFault.TheVariants as faults
-use Rattle.pac_debug.specs.GoingOn.{LineAnswer, AnswersEach, IsHeldUpAfter}
-use Rattle.pac_debug.specs.GoingOn.{AreDoneInTurn, EndIn, IsHeldUpAt, NoneIsTold, GoesIntoFile, ComesTo, LeavesLine, TextsAreLines}
-use Rattle.pac_debug.specs.ObeyingLaws.{Scene, Commands, IsHeldUp, IsLineAnswered}
-use Rattle.pac_debug.specs.Obeying.{session_without_due}
-use Rattle.pac_debug.specs.WatchedLaws.{RefusedOf}
 use Rattle.pac_debug.proofs.Giving.{line-given}
 use Rattle.pac_debug.proofs.Telling.{line-told, line-refused, line-untold}
 use Rattle.pac_debug.proofs.Offers.{HasGiven, gave-none, gave-by, gave-on}

@@ -1,28 +1,14 @@
 -- A session that its sink held up: it told what those lines tell that give no more than the sink took.
-use Rattle.std.proofs.lemmas.Grind.{common_steps}
-use Rattle.std.proofs.Common.{◌≡◌, ℕ, ◌+◌, ◌<◌, ◌≤◌, nat_le, Bool, true, false, max, Option, None, Some, Result, Ok, List, [], ◌∷◌, ◌++◌}
-use Rattle.std.proofs.Common.{append-nil, length, ◌⊎◌, refl, sym, ap, subst, ◌∙◌, length-append, arith, rules}
-use Rattle.std.proofs.lemmas.Bool.Decides.{nat_tests}
+use Rattle.pac_debug.proofs.Common.{Bool, Command, FirstGivesMore, Giving, IsCommandObeyed, IsCommandPerformed, IsFinishRefused}
+use Rattle.pac_debug.proofs.Common.{IsSessionOfferRefused, IsTravelRefused, IsWatchRefused, List, Motion, NoCommand, None, Ok, Option}
+use Rattle.pac_debug.proofs.Common.{Output, RefusedAt, RefusedOf, Result, Scene, SessionValue, Setting, Some, TellsAll, TellsOfCommand}
+use Rattle.pac_debug.proofs.Common.{ToldUpTo, [], answer_text, ap, append-nil, arith, between-joined, command_of, common_steps, ending_of}
+use Rattle.pac_debug.proofs.Common.{false, given_by, joined-to-end, length, length-append, max, nat_le, nat_tests, nothing_due}
+use Rattle.pac_debug.proofs.Common.{outputs_between, outputs_from, outputs_until, refl, rules, run, session_at_command, session_at_start}
+use Rattle.pac_debug.proofs.Common.{session_due_outputs, session_without_due, subst, sym, takes_all, true, whole_run, ℕ, ◌++◌, ◌+◌, ◌<◌}
+use Rattle.pac_debug.proofs.Common.{◌∙◌, ◌∷◌, ◌≡◌, ◌≤◌, ◌⊎◌}
 use mathlib.Core.Logic.{inl, inr}
-use Rattle.pac_board.specs.Output.{Output}
-use Rattle.pac_board.specs.SinksLaws.{Giving}
-use Rattle.pac_board.specs.State.{nothing_due}
-use Rattle.pac_debug_text.specs.declared.command.NoCommand.{NoCommand}
-use Rattle.pac_debug_text.specs.declared.command.Command.{Command}
-use Rattle.pac_debug_text.specs.Commands.{command_of}
-use Rattle.pac_debug_session.specs.declared.motion.Motion.{Motion}
-use Rattle.pac_debug_session.specs.MotionsLaws.{IsTravelRefused, IsFinishRefused}
-use Rattle.pac_debug_session.specs.Running.{Setting, run, outputs_between}
-use Rattle.pac_debug_session.specs.RunningLaws.{whole_run, outputs_from}
-use Rattle.pac_debug_session.specs.Session.{SessionValue, session_at_start}
-use Rattle.pac_debug_session.specs.SessionLaws.{IsSessionOfferRefused, session_at_command, session_due_outputs}
-use Rattle.pac_debug_session.proofs.Forwards.{between-joined, joined-to-end}
 use Rattle.pac_debug.specs.declared.answer.Answer.TheVariants as answers
-use Rattle.pac_debug.specs.Answers.{ending_of, answer_text}
-use Rattle.pac_debug.specs.ObeyingLaws.{Scene}
-use Rattle.pac_debug.specs.Obeying.{IsCommandPerformed, IsCommandObeyed, session_without_due}
-use Rattle.pac_debug.specs.Watched.{takes_all, TellsOfCommand, TellsAll, given_by, FirstGivesMore, ToldUpTo}
-use Rattle.pac_debug.specs.WatchedLaws.{outputs_until, RefusedOf, RefusedAt, IsWatchRefused}
 use Rattle.pac_debug.proofs.Giving.{nothing-given}
 use Rattle.pac_debug.proofs.Resting.{ComesToRest, comes-to-rest}
 

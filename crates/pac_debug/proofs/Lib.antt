@@ -1,3 +1,4 @@
+pub mod Common
 pub mod Lasting
 pub mod LineByLine
 pub mod Giving

@@ -1,10 +1,8 @@
 -- The lines of a text, one after another: what the lines that are left lead to is what the whole text leads to.
-use Rattle.std.proofs.Common.{◌≡◌, ℕ, List, [], ◌∷◌, refl, sym, subst, arith, rules}
+use Rattle.pac_debug.proofs.Common.{CommandFault, Commands, Giving, IsLineAnswered, List, ObeysLines, Scene, [], arith, refl, rules, subst}
+use Rattle.pac_debug.proofs.Common.{sym, ℕ, ◌∷◌, ◌≡◌}
 use Rattle.std.specs.Prelude.{Result, Ok, Err}
 use mathlib.Core.Logic.{inr}
-use Rattle.pac_board.specs.SinksLaws.{Giving}
-use Rattle.pac_debug.specs.declared.line.CommandFault.{CommandFault}
-use Rattle.pac_debug.specs.ObeyingLaws.{Scene, Commands, IsLineAnswered, ObeysLines}
 
 module _ {S W : Type 0} (to : Giving S) (wrote : W → List ℕ → W → Type 0) (balked : W → W → Type 0) where
   abbrev pub Leads : (whole left : List (List ℕ)) → (old now : Scene S W) → Type 0

@@ -1,17 +1,8 @@
 -- What lines that go on offer to the sink: each output in order, until it is taken.
-use Rattle.std.proofs.Common.{◌≡◌, Result, Err, List, [], ◌∷◌, ◌++◌, refl, sym, subst, arith, rules}
-use Rattle.pac_board.specs.Output.{Output}
-use Rattle.pac_board.specs.SinksLaws.{Giving}
-use Rattle.pac_board.specs.Sinks.{TookAll}
-use Rattle.pac_debug_session.specs.Running.{outputs_between}
-use Rattle.pac_debug_session.specs.Session.{SessionValue}
-use Rattle.pac_debug_session.specs.SessionLaws.{session_due_outputs}
-use Rattle.pac_debug_session.proofs.Forwards.{between-joined, between-self}
-use Rattle.pac_debug.specs.declared.line.CommandFault.{CommandFault}
+use Rattle.pac_debug.proofs.Common.{AreInOrder, CommandFault, Err, Giving, IsFurther, LinesGive, List, Offered, Output, Result}
+use Rattle.pac_debug.proofs.Common.{SessionValue, TookAll, WasOffered, WasRefused, WasTaken, [], arith, between-joined, between-self}
+use Rattle.pac_debug.proofs.Common.{outputs_between, outputs_until, refl, rules, session_due_outputs, subst, sym, ◌++◌, ◌∷◌, ◌≡◌}
 use Rattle.pac_debug.specs.declared.line.CommandFault.TheVariants as faults
-use Rattle.pac_debug.specs.GoingOn.{Offered, WasTaken, WasRefused, WasOffered, AreInOrder}
-use Rattle.pac_debug.specs.WatchedLaws.{IsFurther, outputs_until}
-use Rattle.pac_debug.specs.WatchedProofs.{LinesGive}
 use Rattle.pac_debug.proofs.Giving.{further-on}
 
 -- ---- offers in order

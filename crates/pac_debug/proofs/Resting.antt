@@ -1,32 +1,17 @@
 -- Each motion comes to rest, and each command is answered: so all lines tell something.
-use Rattle.std.proofs.Common.{◌≡◌, ℕ, ◌+◌, ◌-◌, ◌==◌, ◌<◌, ◌≤◌, nat_le, nat_lt, Bool, true, false, not, ◌||◌, filter, Option, None, Some}
-use Rattle.std.proofs.Common.{Result, Ok, Err, List, [], ◌∷◌, ◌++◌, length, refl, sym, subst, length-append, ◌⊎◌, arith, rules}
-use Rattle.std.proofs.lemmas.Bool.Decides.{nat_tests}
-use Rattle.std.proofs.lemmas.List.Filters.{length-filter_both}
+use Rattle.pac_debug.proofs.Common.{AllLinesTell, Answer, AnswersBack, AnswersReturn, AtStop, Bool, Command, Err, HasTravelled}
+use Rattle.pac_debug.proofs.Common.{IsCommandObeyed, List, Motion, MotionEnd, NoCommand, None, Ok, Option, RestsBy, Result, SessionValue}
+use Rattle.pac_debug.proofs.Common.{SetsBreakpoint, Some, Stop, TellsOfCommand, [], answer_text, arith, back_to, command_of, ending_of}
+use Rattle.pac_debug.proofs.Common.{false, filter, goes_at, has_breakpoint, has_met, is_late, kept_at, length, length-append}
+use Rattle.pac_debug.proofs.Common.{length-filter_both, met-by, most, most_breakpoints, motion_of, moved_to, nat_le, nat_lt, nat_tests, not}
+use Rattle.pac_debug.proofs.Common.{oldest_index, over-later, refl, rests, rules, search-up, session_without_due, slot_index, stop_at}
+use Rattle.pac_debug.proofs.Common.{subst, sym, takes_all, true, ℕ, ◌++◌, ◌+◌, ◌-◌, ◌<◌, ◌==◌, ◌||◌, ◌∷◌, ◌≡◌, ◌≤◌, ◌⊎◌}
 use mathlib.Core.Logic.{inl, inr}
-use Rattle.pac_board.specs.Stop.{Stop}
-use Rattle.pac_debug_text.specs.declared.command.Command.{Command}
 use Rattle.pac_debug_text.specs.declared.command.Command.TheVariants as commands
-use Rattle.pac_debug_text.specs.declared.command.NoCommand.{NoCommand}
 use Rattle.pac_debug_text.specs.declared.place.Ending.TheVariants as endings
 use Rattle.pac_debug_text.specs.declared.refusal.Refusal.TheVariants as refusals
-use Rattle.pac_debug_text.specs.Commands.{command_of}
-use Rattle.pac_debug_text.specs.Slots.{slot_index}
-use Rattle.pac_debug_session.specs.declared.motion.MotionEnd.{MotionEnd}
-use Rattle.pac_debug_session.specs.declared.motion.MotionEnd.TheVariants.{AtStop}
-use Rattle.pac_debug_session.specs.declared.motion.Motion.{Motion}
 use Rattle.pac_debug_session.specs.declared.motion.Motion.TheVariants as motions
-use Rattle.pac_debug_session.specs.Motions.{RestsBy, HasTravelled, rests, has_met, moved_to, oldest_index, back_to}
-use Rattle.pac_debug_session.specs.Running.{is_late, stop_at, goes_at}
-use Rattle.pac_debug_session.specs.Session.{SessionValue, has_breakpoint, most_breakpoints}
-use Rattle.pac_debug_session.proofs.Ends.{most, over-later, search-up}
-use Rattle.pac_debug_session.proofs.Travelled.{met-by}
-use Rattle.pac_debug.specs.declared.answer.Answer.{Answer}
 use Rattle.pac_debug.specs.declared.answer.Answer.TheVariants as answers
-use Rattle.pac_debug.specs.Answers.{ending_of, answer_text}
-use Rattle.pac_debug.specs.Obeying.{AnswersBack, AnswersReturn, SetsBreakpoint, IsCommandObeyed, session_without_due, kept_at, motion_of}
-use Rattle.pac_debug.specs.Watched.{takes_all, TellsOfCommand}
-use Rattle.pac_debug.specs.Laws.{AllLinesTell}
 use Rattle.pac_debug.proofs.Telling.{all-taken, told-then}
 
 -- ---- each motion comes to rest

@@ -1,30 +1,15 @@
 -- What lines tell, and where they leave a session, is determined by them and by where the session stood.
-use Rattle.std.proofs.Common.{◌≡◌, ℕ, ◌-◌, ◌<◌, nat_lt, Bool, true, false, Option, None, Some, Result, Ok, Err, List, [], ◌∷◌, rules}
-use Rattle.std.proofs.Common.{◌⊎◌, refl, sym, ap, subst, ◌∙◌, arith}
-use Rattle.std.proofs.lemmas.Bool.Decides.{nat_tests}
+use Rattle.pac_debug.proofs.Common.{Answer, AnswersBack, AnswersReturn, AtBreakpoint, AtEnd, AtFrame, AtStep, AtStop, Bool, Command, Err}
+use Rattle.pac_debug.proofs.Common.{HasMoved, IsBack, IsCommandObeyed, IsCommandPerformed, IsDone, IsLeast, IsTooOld, List, Motion}
+use Rattle.pac_debug.proofs.Common.{MotionEnd, NoCommand, None, Ok, Option, Output, RestsBy, Result, SessionValue, SetsBreakpoint, Some}
+use Rattle.pac_debug.proofs.Common.{Stays, Stop, TellsAll, TellsOfCommand, TellsOneThing, [], ap, arith, breaks_at, command_of, false}
+use Rattle.pac_debug.proofs.Common.{has_breakpoint, has_met, is_late, kept_at, motion_ending, motion_of, nat_lt, nat_tests, not-both}
+use Rattle.pac_debug.proofs.Common.{oldest_index, refl, rules, slot_index, stop_at, subst, sym, true, ℕ, ◌-◌, ◌<◌, ◌∙◌, ◌∷◌, ◌≡◌, ◌⊎◌}
 use mathlib.Core.Logic.{inl, inr}
-use Rattle.pac_board.specs.Stop.{Stop}
-use Rattle.pac_board.specs.Output.{Output}
-use Rattle.pac_board.proofs.Walks.{not-both}
-use Rattle.pac_debug_text.specs.declared.command.Command.{Command}
 use Rattle.pac_debug_text.specs.declared.command.Command.TheVariants as commands
-use Rattle.pac_debug_text.specs.declared.command.NoCommand.{NoCommand}
 use Rattle.pac_debug_text.specs.declared.place.Ending.TheVariants as endings
 use Rattle.pac_debug_text.specs.declared.refusal.Refusal.TheVariants as refusals
-use Rattle.pac_debug_text.specs.Commands.{command_of}
-use Rattle.pac_debug_text.specs.Slots.{slot_index}
-use Rattle.pac_debug_session.specs.declared.motion.MotionEnd.{MotionEnd}
-use Rattle.pac_debug_session.specs.declared.motion.MotionEnd.TheVariants.{AtStop, AtEnd, AtBreakpoint, AtFrame, AtStep}
-use Rattle.pac_debug_session.specs.declared.motion.Motion.{Motion}
-use Rattle.pac_debug_session.specs.Motions.{RestsBy, IsDone, IsBack, IsTooOld, has_met, motion_ending, oldest_index}
-use Rattle.pac_debug_session.specs.Running.{IsLeast, is_late, stop_at}
-use Rattle.pac_debug_session.specs.Session.{SessionValue, breaks_at, has_breakpoint}
-use Rattle.pac_debug.specs.declared.answer.Answer.{Answer}
 use Rattle.pac_debug.specs.declared.answer.Answer.TheVariants as answers
-use Rattle.pac_debug.specs.Obeying.{AnswersBack, AnswersReturn, SetsBreakpoint, Stays, HasMoved, IsCommandPerformed, IsCommandObeyed}
-use Rattle.pac_debug.specs.Obeying.{kept_at, motion_of}
-use Rattle.pac_debug.specs.Watched.{TellsOfCommand, TellsAll}
-use Rattle.pac_debug.specs.Laws.{TellsOneThing}
 
 -- ---- where a motion rests
 

@@ -1,38 +1,15 @@
 -- The steps that a session's board makes: no more than lead to the furthest index, and those that lines have it make once more.
-use Rattle.std.proofs.Common.{◌≡◌, ℕ, zero, suc, ◌+◌, ◌<◌, ◌≤◌, nat_lt, Bool, true, false, not, ◌||◌, get_or}
-use Rattle.std.proofs.Common.{Option, None, Some, Result, Ok, Err, List, [], ◌∷◌, ◌++◌, ap, ◌∙◌, arith, rules}
-use Rattle.std.proofs.lemmas.Bool.{cases_lt}
+use Rattle.pac_debug.proofs.Common.{Answer, AnswersBack, AnswersReturn, AreSeen, BoardView, Bool, Command, CommandFault, Due, Err, Giving}
+use Rattle.pac_debug.proofs.Common.{IsCommandObeyed, IsCommandPerformed, IsHeldUpAt, IsSeen, IsSession, LeavesEach, LeavesLine, LineAnswer}
+use Rattle.pac_debug.proofs.Common.{LinesMakeNoMore, List, MakesNoMore, Moment, Motion, NoCommand, None, Ok, Option, Outcome, RefusedAt}
+use Rattle.pac_debug.proofs.Common.{Result, Scene, SessionValue, SessionsMakeNoMore, SetsBreakpoint, Some, Stays, TellsAll, TellsOfCommand}
+use Rattle.pac_debug.proofs.Common.{WatchesSession, [], all-seen-later, all_steps_again, ap, arith, cases_lt, command_of, false, get_or}
+use Rattle.pac_debug.proofs.Common.{goes_at, has_breakpoint, has_met, moved_to, nat_lt, not, open-up-to, rests, rules, run-ends, seen-set}
+use Rattle.pac_debug.proofs.Common.{session_with_slot, session_without_due, slot_index, steps_again, suc, takes_all, true, whole-at-end}
+use Rattle.pac_debug.proofs.Common.{whole_run, zero, ℕ, ◌++◌, ◌+◌, ◌<◌, ◌||◌, ◌∙◌, ◌∷◌, ◌≡◌, ◌≤◌}
 use mathlib.Core.Logic.{inl, inr}
-use Rattle.pac_board.specs.SinksLaws.{Giving}
-use Rattle.pac_board.specs.Due.{Due}
-use Rattle.pac_board.specs.Step.{Moment}
-use Rattle.pac_board.specs.BoardView.{BoardView}
-use Rattle.pac_debug_text.specs.declared.command.Command.{Command}
 use Rattle.pac_debug_text.specs.declared.command.Command.TheVariants as commands
-use Rattle.pac_debug_text.specs.declared.command.NoCommand.{NoCommand}
-use Rattle.pac_debug_text.specs.Commands.{command_of}
-use Rattle.pac_debug_text.specs.Slots.{slot_index}
-use Rattle.pac_debug_session.specs.declared.motion.Motion.{Motion}
-use Rattle.pac_debug_session.specs.Motions.{has_met, moved_to, rests, session_with_slot}
-use Rattle.pac_debug_session.specs.Outcome.{Outcome}
-use Rattle.pac_debug_session.specs.Running.{goes_at}
-use Rattle.pac_debug_session.specs.RunningLaws.{whole_run}
-use Rattle.pac_debug_session.specs.SessionLaws.{AreSeen, IsSeen, IsSession}
-use Rattle.pac_debug_session.specs.Session.{SessionValue, has_breakpoint}
-use Rattle.pac_debug_session.proofs.Ends.{run-ends, whole-at-end}
-use Rattle.pac_debug_session.proofs.Slots.{seen-set}
-use Rattle.pac_debug_session.proofs.Indices.{open-up-to}
-use Rattle.pac_debug_session.proofs.Steppings.{all-seen-later}
-use Rattle.pac_debug.specs.declared.answer.Answer.{Answer}
-use Rattle.pac_debug.specs.declared.line.CommandFault.{CommandFault}
 use Rattle.pac_debug.specs.declared.line.CommandFault.TheVariants as faults
-use Rattle.pac_debug.specs.GoingOn.{LineAnswer, IsHeldUpAt, LeavesLine, LeavesEach}
-use Rattle.pac_debug.specs.Obeying.{AnswersBack, AnswersReturn, SetsBreakpoint, Stays, IsCommandPerformed, IsCommandObeyed}
-use Rattle.pac_debug.specs.ObeyingLaws.{Scene}
-use Rattle.pac_debug.specs.Obeying.{session_without_due}
-use Rattle.pac_debug.specs.StepsMade.{steps_again, all_steps_again, MakesNoMore, LinesMakeNoMore, SessionsMakeNoMore}
-use Rattle.pac_debug.specs.Watched.{takes_all, TellsOfCommand, TellsAll}
-use Rattle.pac_debug.specs.WatchedLaws.{RefusedAt, WatchesSession}
 use Rattle.pac_debug.proofs.GoingOn.{comes-to, held-at}
 
 -- ---- where a session stands

@@ -1,26 +1,11 @@
 -- What lines tell doesn't hang on the sink: it is said of the run alone.
-use Rattle.std.proofs.Common.{◌≡◌, ℕ, Option, None, Some, Result, Ok, Err, List, [], ◌∷◌, ◌++◌, refl, ap, arith, rules, true}
-use Rattle.std.proofs.lemmas.List.Elements.{All-cons}
+use Rattle.pac_debug.proofs.Common.{All-cons, Answer, Asks, Command, Err, Giving, HasMoved, IsCommandDone, IsCommandObeyed}
+use Rattle.pac_debug.proofs.Common.{IsCommandPerformed, List, Motion, NoCommand, None, ObeysLines, Ok, Option, Output, RefusedAt, RefusedOf}
+use Rattle.pac_debug.proofs.Common.{Refuses, Result, Scene, SessionValue, Some, Takes, TellsAll, TellsOfCommand, TookAll, TookTold}
+use Rattle.pac_debug.proofs.Common.{WordsTell, WriteFault, [], answer_text, ap, arith, command_of, nothing_due, refl, rules, takes-joined}
+use Rattle.pac_debug.proofs.Common.{takes_all, true, ℕ, ◌++◌, ◌∷◌, ◌≡◌}
 use mathlib.Core.Logic.{inl, inr}
-use Rattle.pac_board.specs.Output.{Output}
-use Rattle.pac_board.specs.SinksLaws.{Giving}
-use Rattle.pac_board.specs.Sinks.{TookAll}
-use Rattle.pac_board.specs.State.{nothing_due}
-use Rattle.pac_out.specs.declared.WriteFault.{WriteFault}
-use Rattle.pac_out.specs.CountedLaws.{Takes, Refuses}
-use Rattle.pac_out.proofs.Files.{takes-joined}
-use Rattle.pac_debug_text.specs.declared.command.Command.{Command}
-use Rattle.pac_debug_text.specs.declared.command.NoCommand.{NoCommand}
-use Rattle.pac_debug_text.specs.Commands.{command_of}
-use Rattle.pac_debug_session.specs.declared.motion.Motion.{Motion}
-use Rattle.pac_debug_session.specs.Session.{SessionValue}
-use Rattle.pac_debug.specs.declared.answer.Answer.{Answer}
 use Rattle.pac_debug.specs.declared.line.CommandFault.TheVariants as faults
-use Rattle.pac_debug.specs.Answers.{answer_text}
-use Rattle.pac_debug.specs.Obeying.{HasMoved, IsCommandPerformed, IsCommandObeyed}
-use Rattle.pac_debug.specs.ObeyingLaws.{IsCommandDone, Scene, Asks, ObeysLines}
-use Rattle.pac_debug.specs.Watched.{takes_all, WordsTell, TellsOfCommand, TellsAll}
-use Rattle.pac_debug.specs.WatchedLaws.{TookTold, RefusedOf, RefusedAt}
 
 -- ---- any sink for another
 

@@ -1,23 +1,11 @@
 -- A whole session: its lines, and then the run's end.
-use Rattle.std.proofs.Common.{◌≡◌, ℕ, Ok, Err, List, [], ◌++◌, ◌⊎◌, sym, subst, ◌∙◌, append_assoc, append-nil, arith, rules}
+use Rattle.pac_debug.proofs.Common.{CommandFault, Counted, Err, GaveAll, Giving, IsFinishRefused, IsFinished, IsFurther, IsOutcome}
+use Rattle.pac_debug.proofs.Common.{IsSessionOfferRefused, IsSessionWatched, IsWatchRefused, LinesGive, List, ObeysLines, Ok, Outcome}
+use Rattle.pac_debug.proofs.Common.{Output, Scene, SessionValue, Setting, TookTold, WatchesSession, [], append-nil, append_assoc, arith}
+use Rattle.pac_debug.proofs.Common.{outputs_from, outputs_to_give, outputs_until, rules, session_at_command, session_due_outputs, subst}
+use Rattle.pac_debug.proofs.Common.{sym, took-both, ℕ, ◌++◌, ◌∙◌, ◌≡◌, ◌⊎◌}
 use mathlib.Core.List.{IsPrefix}
-use Rattle.pac_board.specs.Output.{Output}
-use Rattle.pac_board.specs.SinksLaws.{Giving}
-use Rattle.pac_board.proofs.Sinks.{took-both}
-use Rattle.pac_out.specs.declared.counted.Counted.{Counted}
-use Rattle.pac_debug_session.specs.Outcome.{Outcome}
-use Rattle.pac_debug_session.specs.MotionsLaws.{IsOutcome, IsFinishRefused}
-use Rattle.pac_debug_session.specs.MotionsProofs.{IsFinished}
-use Rattle.pac_debug_session.specs.Running.{Setting}
-use Rattle.pac_debug_session.specs.RunningLaws.{outputs_from}
-use Rattle.pac_debug_session.specs.Session.{SessionValue}
-use Rattle.pac_debug_session.specs.SessionLaws.{IsSessionOfferRefused, session_at_command, session_due_outputs}
-use Rattle.pac_debug.specs.declared.line.CommandFault.{CommandFault}
 use Rattle.pac_debug.specs.declared.line.CommandFault.TheVariants as faults
-use Rattle.pac_debug.specs.ObeyingLaws.{Scene, ObeysLines}
-use Rattle.pac_debug.specs.WatchedLaws.{IsFurther, GaveAll, outputs_until, TookTold, outputs_to_give, IsSessionWatched, IsWatchRefused}
-use Rattle.pac_debug.specs.WatchedLaws.{WatchesSession}
-use Rattle.pac_debug.specs.WatchedProofs.{LinesGive}
 use Rattle.pac_debug.proofs.Giving.{all-to-give, some-after, finish-given, lines-given}
 use Rattle.pac_debug.proofs.Telling.{lines-told, lines-refused, lines-untold}
 

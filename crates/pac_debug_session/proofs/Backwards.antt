@@ -1,12 +1,7 @@
 -- The way back, over plain values: a checkpoint is found by its place, and steps are done again.
-use Rattle.std.proofs.lemmas.Grind.{common_steps}
-use Rattle.std.proofs.Common.{◌≡◌, ℕ, zero, suc, ◌+◌, ◌-◌, ◌*◌, ◌<◌, ◌≤◌, Some, List, [], ◌∷◌, slice_get, rules, arith}
-use Rattle.pac_debug_session.specs.declared.kept.SessionSnapshot.{SessionSnapshot}
-use Rattle.pac_debug_session.specs.Keeping.{IsKeptAt, AreCheckpoints}
-use Rattle.pac_debug_session.specs.Motions.{checkpoint_steps, checkpoint_count}
-use Rattle.pac_debug_session.specs.MotionsProofs.{replayed_to}
-use Rattle.pac_debug_session.specs.Running.{Setting}
-use Rattle.pac_debug_session.specs.Session.{SessionValue}
+use Rattle.pac_debug_session.proofs.Common.{AreCheckpoints, IsKeptAt, List, SessionSnapshot, SessionValue, Setting, Some, [], arith}
+use Rattle.pac_debug_session.proofs.Common.{checkpoint_count, checkpoint_steps, common_steps, replayed_to, rules, slice_get, suc, zero, ℕ}
+use Rattle.pac_debug_session.proofs.Common.{◌*◌, ◌+◌, ◌-◌, ◌<◌, ◌∷◌, ◌≡◌, ◌≤◌}
 
 -- ---- the checkpoint of a place
 

@@ -1,21 +1,9 @@
 -- A session at the beginning of its run.
-use Rattle.std.proofs.Common.{rules, ◌≡◌, ℕ, zero, suc, ◌+◌, ◌≤◌, false, List, [], ◌∷◌, ◌++◌, length, map, replicate, None, refl, sym, ap, ◌∙◌}
-use Rattle.std.proofs.Common.{arith}
-use Rattle.std.proofs.lemmas.List.{length-append}
-use Rattle.pac_board_course.specs.Stretches.{held}
-use Rattle.pac_board_course.specs.Stretch.{Stretch}
-use Rattle.pac_board_course.proofs.Walks.{not-both}
-use Rattle.pac_board_course.specs.State.{BoardValue, BoardState, board_with_inputs}
-use Rattle.pac_board_course.specs.PastStep.{PastStep}
-use Rattle.pac_debug_session.specs.declared.kept.SessionSnapshot.{SessionSnapshot}
-use Rattle.pac_debug_session.specs.declared.kept.SlotContents.{SlotContents}
-use Rattle.pac_debug_session.specs.Inside.{IsStanding, AreSlotsRight}
-use Rattle.pac_debug_session.specs.Keeping.{Ring, mark_of, AreCheckpoints, AreSlots, AreEmpty}
-use Rattle.pac_debug_session.specs.Motions.{checkpoint_count}
-use Rattle.pac_debug_session.specs.Running.{Setting, now_at}
-use Rattle.pac_debug_session.specs.SessionProofs.{IsNew}
-use Rattle.pac_debug_session.specs.Session.{session_at_start}
-use Rattle.pac_debug_session.specs.SessionLaws.{AreSeen, slot_count}
+use Rattle.pac_debug_session.proofs.Common.{AreCheckpoints, AreEmpty, AreSeen, AreSlots, AreSlotsRight, BoardState, BoardValue, IsNew}
+use Rattle.pac_debug_session.proofs.Common.{IsStanding, List, None, PastStep, Ring, SessionSnapshot, Setting, SlotContents, Stretch, [], ap}
+use Rattle.pac_debug_session.proofs.Common.{arith, board_with_inputs, checkpoint_count, false, held, length, length-append, map, mark_of}
+use Rattle.pac_debug_session.proofs.Common.{not-both, now_at, refl, replicate, rules, session_at_start, slot_count, suc, sym, zero, ℕ, ◌++◌}
+use Rattle.pac_debug_session.proofs.Common.{◌+◌, ◌∙◌, ◌∷◌, ◌≡◌, ◌≤◌}
 use Rattle.pac_debug_session.proofs.Steppings.{with_board}
 
 -- ---- nothing is kept yet

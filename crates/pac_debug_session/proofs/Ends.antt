@@ -1,25 +1,11 @@
 -- Where a run goes no further: there is a first such index, and up to a step that was counted it goes on.
-use Rattle.std.proofs.Common.{◌≡◌, ℕ, zero, suc, ◌+◌, ◌-◌, ◌*◌, ◌≤◌, Bool, true, false, not, Option, None, Some}
-use Rattle.std.proofs.Common.{refl, ap, ◌∙◌, arith, rules}
-use Rattle.pac_board_course.specs.Stop.{Stop}
-use Rattle.pac_board_course.specs.Stretches.{total_frames}
-use Rattle.pac_board_course.specs.BoardView.{BoardView, power_on_board_view}
-use Rattle.pac_board_course.specs.Step.{Moment, Next, Goes, Ends}
-use Rattle.pac_board_course.specs.Trace.{by_view, frame_steps}
-use Rattle.pac_board_course.specs.Walk.{Walk, onward_if, walk_after_step}
-use Rattle.pac_board_course.specs.WalkLaws.{has_ended}
-use Rattle.pac_board_course.proofs.Runs.{runs-end}
-use Rattle.pac_board_course.proofs.Walks.{going-before, going-far, going-steps, ended-for-good, not-both, stopped-has-ended}
-use Rattle.pac_board_course.proofs.Counted.{going-if-counted}
-use Rattle.pac_debug_session.specs.Running.{Setting, IsLeast, play_of, run, now_at, next_from, next_at, limit, stop_in, stop_at, goes_at}
-use Rattle.pac_debug_session.specs.Running.{is_late}
-use Rattle.std.proofs.lemmas.Bool.Decides.{nat_tests}
+use Rattle.pac_debug_session.proofs.Common.{BoardView, Bool, Ends, Goes, IsLeast, Moment, Next, None, Option, Setting, Some, Stop, Walk, ap}
+use Rattle.pac_debug_session.proofs.Common.{arith, by_view, ended-for-good, false, frame_steps, goes_at, going-before, going-far}
+use Rattle.pac_debug_session.proofs.Common.{going-if-counted, going-steps, has_ended, is_late, late-has-ended, limit, most_ticks, nat_tests}
+use Rattle.pac_debug_session.proofs.Common.{next_at, next_from, not, not-both, now_at, onward_if, play_of, power_on_board_view, refl, rules}
+use Rattle.pac_debug_session.proofs.Common.{run, runs-end, stop_at, stop_in, stopped-has-ended, suc, sym, total_frames, true, walk-near}
+use Rattle.pac_debug_session.proofs.Common.{walk_after_step, whole_run, zero, ℕ, ◌*◌, ◌+◌, ◌-◌, ◌<◌, ◌∙◌, ◌≡◌, ◌≤◌}
 use Rattle.pac_debug_session.proofs.Indices.{timely}
-use Rattle.std.proofs.Common.{sym, ◌<◌}
-use Rattle.pac_board_course.specs.Instructions.{most_ticks}
-use Rattle.pac_board_course.proofs.Runs.{walk-near}
-use Rattle.pac_board_course.proofs.Walks.{late-has-ended}
-use Rattle.pac_debug_session.specs.RunningLaws.{whole_run}
 use Rattle.pac_debug_session.proofs.Indices.{open-up-to, next-index}
 
 -- ---- the least index

@@ -1,19 +1,8 @@
 -- To the end of a run: what was due, and what the run gives from there on.
-use Rattle.std.proofs.Common.{rules, ◌≡◌, ℕ, Bool, true, false, not, subst, arith}
-use Rattle.pac_board_course.proofs.Sinks.{took-both, cut-after, prefix-after}
-use Rattle.pac_board_course.specs.SinksLaws.{Giving}
-use Rattle.pac_board_course.specs.Sinks.{TookAll}
-use Rattle.pac_board_course.specs.State.{nothing_due}
-use Rattle.pac_board_course.specs.Course.{outcome_at}
-use Rattle.pac_board_course.specs.declared.outcome.Outcome.{Outcome}
-use Rattle.pac_debug_session.specs.declared.motion.MotionEnd.{MotionEnd}
-use Rattle.pac_debug_session.specs.declared.motion.Motion.TheVariants.{ToEnd}
-use Rattle.pac_debug_session.specs.Motions.{rests, RestsBy, moved_to, HasTravelled}
-use Rattle.pac_debug_session.specs.MotionsLaws.{IsTravelRefused, IsFinishRefused}
-use Rattle.pac_debug_session.specs.MotionsProofs.{IsFinished, stop_of}
-use Rattle.pac_debug_session.specs.Running.{now_at, goes_at, outputs_between}
-use Rattle.pac_debug_session.specs.Session.{SessionValue}
-use Rattle.pac_debug_session.specs.SessionLaws.{IsSession, session_due_outputs}
+use Rattle.pac_debug_session.proofs.Common.{Bool, Giving, HasTravelled, IsFinishRefused, IsFinished, IsSession, IsTravelRefused, MotionEnd}
+use Rattle.pac_debug_session.proofs.Common.{Outcome, RestsBy, SessionValue, ToEnd, TookAll, arith, cut-after, false, goes_at, moved_to, not}
+use Rattle.pac_debug_session.proofs.Common.{nothing_due, now_at, outcome_at, outputs_between, prefix-after, rests, rules}
+use Rattle.pac_debug_session.proofs.Common.{session_due_outputs, stop_of, subst, took-both, true, ℕ, ◌≡◌}
 use Rattle.pac_debug_session.proofs.Travelled.{whole-there}
 
 -- nothing but the run's end ends it

@@ -1,18 +1,10 @@
 -- What a run gives between its indices, piece by piece.
-use Rattle.std.proofs.Common.{◌≡◌, ℕ, ◌+◌, ◌-◌, ◌*◌, ◌≤◌, nat_le, Bool, true, false, [], ◌++◌, length, drop}
-use Rattle.std.proofs.Common.{refl, sym, ap, subst, ◌∙◌, append_assoc, arith}
-use Rattle.std.proofs.lemmas.Bool.Decides.{nat_tests}
-use Rattle.std.proofs.lemmas.List.{append-nil}
-use Rattle.std.proofs.Math.Seq.{drop-length, drop-append_seam}
+use Rattle.pac_debug_session.proofs.Common.{BoardView, Bool, Setting, Walk, [], ap, append-nil, append_assoc, arith, by_view, drop}
+use Rattle.pac_debug_session.proofs.Common.{drop-append_seam, drop-length, ended-for-good, false, frame_steps, length, limit, nat_le}
+use Rattle.pac_debug_session.proofs.Common.{nat_tests, next_from, outputs_between, outputs_from, play_of, power_on_board_view, refl, run}
+use Rattle.pac_debug_session.proofs.Common.{runs-are-joined, runs-end, subst, sym, total_frames, true, whole_run, ℕ, ◌*◌, ◌++◌, ◌+◌, ◌-◌}
+use Rattle.pac_debug_session.proofs.Common.{◌∙◌, ◌≡◌, ◌≤◌}
 use mathlib.Core.List.{IsPrefix}
-use Rattle.pac_board_course.specs.Stretches.{total_frames}
-use Rattle.pac_board_course.specs.BoardView.{BoardView, power_on_board_view}
-use Rattle.pac_board_course.specs.Trace.{by_view, frame_steps}
-use Rattle.pac_board_course.specs.Walk.{Walk}
-use Rattle.pac_board_course.proofs.Runs.{runs-are-joined, runs-end}
-use Rattle.pac_board_course.proofs.Walks.{ended-for-good}
-use Rattle.pac_debug_session.specs.Running.{Setting, play_of, run, next_from, limit, outputs_between}
-use Rattle.pac_debug_session.specs.RunningLaws.{whole_run, outputs_from}
 use Rattle.pac_debug_session.proofs.Indices.{between}
 
 -- ---- outputs, piece by piece

@@ -1,17 +1,8 @@
 -- A run at its indices: where it goes on, each index is one step, and each step takes its time.
-use Rattle.std.proofs.Common.{◌≡◌, ℕ, zero, suc, ◌<◌, Bool, true, false, ◌&&◌, not, is_none, None, rules}
-use Rattle.std.proofs.Common.{List, ◌++◌, length, drop, refl, ap, ◌∙◌, arith}
-use Rattle.std.proofs.Math.Seq.{drop-append_seam}
-use Rattle.pac_board_course.specs.StepKind.{StepKind}
-use Rattle.pac_board_course.specs.Stretches.{held}
-use Rattle.pac_board_course.specs.BoardView.{BoardView}
-use Rattle.pac_board_course.specs.ModelLaws.{IsTimely}
-use Rattle.pac_board_course.specs.Output.{Output}
-use Rattle.pac_board_course.specs.Step.{Moment, Next, Goes}
-use Rattle.pac_board_course.specs.Trace.{by_view}
-use Rattle.pac_board_course.specs.Walk.{walk_after_step}
-use Rattle.pac_board_course.proofs.Walks.{play-timely}
-use Rattle.pac_debug_session.specs.Running.{Setting, run, now_at, next_from, next_at, is_late, stop_at, goes_at, outputs_between}
+use Rattle.pac_debug_session.proofs.Common.{BoardView, Bool, Goes, IsTimely, List, Moment, Next, None, Output, Setting, StepKind, ap, arith}
+use Rattle.pac_debug_session.proofs.Common.{by_view, drop, drop-append_seam, false, goes_at, held, is_late, is_none, length, next_at}
+use Rattle.pac_debug_session.proofs.Common.{next_from, not, now_at, outputs_between, play-timely, refl, rules, run, stop_at, suc, true}
+use Rattle.pac_debug_session.proofs.Common.{walk_after_step, zero, ℕ, ◌&&◌, ◌++◌, ◌<◌, ◌∙◌, ◌≡◌}
 
 -- ---- tests
 

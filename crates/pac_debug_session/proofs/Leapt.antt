@@ -1,34 +1,13 @@
 -- Steps of a session in one go, by what the course's call answered: what stands before them stands after them.
-use Rattle.std.proofs.Common.{◌≡◌, ℕ, zero, suc, ◌+◌, ◌-◌, ◌/◌, ◌%◌, ◌==◌, ◌<◌, ◌≤◌, true, min, max, nat_lt, rules}
-use Rattle.std.proofs.Common.{if◌then◌else◌, Option, None, Some, Result, Ok, Err, List, refl, sym, ap, subst, ◌∙◌, arith}
-use Rattle.std.specs.List.{list_any}
-use Rattle.std.proofs.lemmas.Bool.{cases_lt}
+use Rattle.pac_debug_session.proofs.Common.{AreStops, BoardValue, BoardView, CourseValue, Err, Giving, GoesTold, HasEndedBy, HasLeapt}
+use Rattle.pac_debug_session.proofs.Common.{Inside, IsInsideRight, IsLeap, IsLeapRefused, IsStanding, LeapEnds, Leaps, List, MeetNothing}
+use Rattle.pac_debug_session.proofs.Common.{Moment, None, Ok, Option, PastStep, Result, Ring, SessionValue, Some, Stop, TookAll, Walk, ap}
+use Rattle.pac_debug_session.proofs.Common.{arith, board_at, cases_lt, checkpoint_steps, course_of, cut-along, cut-something, frame_end}
+use Rattle.pac_debug_session.proofs.Common.{frame_ticks, goes_at, if◌then◌else◌, leap_limit, list_any, max, min, moved_to, nat_lt}
+use Rattle.pac_debug_session.proofs.Common.{nat_tests, now_at, outputs_between, refl, rules, session_view, stepped, stop_unless, subst, suc}
+use Rattle.pac_debug_session.proofs.Common.{sym, told_at, true, way_walked, zero, ℕ, ◌%◌, ◌+◌, ◌-◌, ◌/◌, ◌<◌, ◌==◌, ◌∙◌, ◌≡◌, ◌≤◌}
 use mathlib.Core.Logic.{inl, inr}
-use Rattle.std.proofs.lemmas.Bool.Decides.{nat_tests}
 use mathlib.Core.List.{IsPrefix}
-use Rattle.pac_board_course.specs.TurnsProofs.{board_at}
-use Rattle.pac_board_course.specs.BoardView.{BoardView}
-use Rattle.pac_board_course.specs.Course.{CourseValue, way_walked}
-use Rattle.pac_board_course.specs.Frames.{GoesTold, HasEndedBy, frame_end}
-use Rattle.pac_board_course.specs.PastStep.{PastStep}
-use Rattle.pac_board_course.specs.SinksLaws.{Giving}
-use Rattle.pac_board_course.specs.Sinks.{TookAll}
-use Rattle.pac_board_course.specs.State.{BoardValue}
-use Rattle.pac_board_course.specs.Step.{Moment, frame_ticks}
-use Rattle.pac_board_course.specs.Stop.{Stop}
-use Rattle.pac_board_course.specs.Trails.{stepped}
-use Rattle.pac_board_course.specs.Walk.{Walk}
-use Rattle.pac_board_course.proofs.Sinks.{cut-along, cut-something}
-use Rattle.pac_debug_session.specs.Breakpoints.{AreStops}
-use Rattle.pac_debug_session.specs.Inside.{IsStanding, IsInsideRight, session_view}
-use Rattle.pac_debug_session.specs.declared.session.Session.TheInside.{Inside}
-use Rattle.pac_debug_session.specs.Keeping.{Ring}
-use Rattle.pac_debug_session.specs.Motions.{checkpoint_steps, moved_to}
-use Rattle.pac_debug_session.specs.Past.{told_at}
-use Rattle.pac_debug_session.specs.Playing.{course_of}
-use Rattle.pac_debug_session.specs.Running.{now_at, goes_at, outputs_between}
-use Rattle.pac_debug_session.specs.Session.{SessionValue}
-use Rattle.pac_debug_session.specs.Strides.{MeetNothing, IsLeap, LeapEnds, HasLeapt, IsLeapRefused, Leaps, leap_limit, stop_unless}
 use Rattle.pac_debug_session.proofs.Ends.{goes-if-counted}
 use Rattle.pac_debug_session.proofs.Indices.{IsOpen, open-up-to}
 use Rattle.pac_debug_session.proofs.PlayedOn.{run-walked, given-walked, steps-same}

@@ -1,3 +1,4 @@
+pub mod Common
 pub mod Indices
 pub mod Histories
 pub mod Marked

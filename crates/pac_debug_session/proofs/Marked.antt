@@ -1,11 +1,7 @@
 -- The map of all addresses marks those that are breakpoints.
-use Rattle.std.proofs.Common.{◌≡◌, ◌<◌, ℕ, suc, ◌==◌, not, Bool, true, false, List, [], length, filter, Some}
-use Rattle.std.proofs.Common.{slice_index, slice_set, replicate, refl, sym, ap, ◌∙◌, arith}
-use Rattle.std.specs.List.{list_any}
-use Rattle.std.proofs.lemmas.Bool.Decides.{nat_tests}
-use Rattle.std.proofs.lemmas.List.{get_or-set_same, get_or-set_other}
-use Rattle.std.proofs.lemmas.Map.Views.{any-filter_same}
-use Rattle.pac_debug_session.specs.Breakpoints.{AreStops}
+use Rattle.pac_debug_session.proofs.Common.{AreStops, Bool, List, Some, [], any-filter_same, ap, arith, false, filter, get_or-set_other}
+use Rattle.pac_debug_session.proofs.Common.{get_or-set_same, length, list_any, nat_tests, not, refl, replicate, slice_index, slice_set, suc}
+use Rattle.pac_debug_session.proofs.Common.{sym, true, ℕ, ◌<◌, ◌==◌, ◌∙◌, ◌≡◌}
 
 -- zeros mark none
 zeros-at : (n at : ℕ) → slice_index (replicate n 0) at ≡ 0

@@ -1,32 +1,13 @@
 -- A session's run from its furthest index on is the way on of its course.
-use Rattle.std.proofs.Common.{◌≡◌, ℕ, zero, suc, ◌+◌, ◌*◌, ◌≤◌, Option, List, ◌++◌, refl, sym, ap, subst, ◌∙◌, arith, rules}
-use Rattle.std.proofs.Math.Seq.{drop-append_seam}
-use Rattle.pac_board_course.specs.Stretches.{total_frames, most_frames}
+use Rattle.pac_debug_session.proofs.Common.{BoardView, CourseValue, Giving, IsCourseHeldUp, IsFinishRefused, IsFinished, IsOver, IsSession}
+use Rattle.pac_debug_session.proofs.Common.{List, Moment, Next, Option, Outcome, Output, SessionValue, Stop, TookAll, Walk, ap, arith}
+use Rattle.pac_debug_session.proofs.Common.{by_view, course_of, cut-after, cut-along, cut-something, drop-append_seam, due_outputs, end_of}
+use Rattle.pac_debug_session.proofs.Common.{frame_steps, frame_ticks, goes-on, joined, limit, more-joined, most_frames, moved_to, next_from}
+use Rattle.pac_debug_session.proofs.Common.{next_in, nothing_due, now_at, outcome_at, outputs_between, outputs_from, play_of}
+use Rattle.pac_debug_session.proofs.Common.{power_on_board_view, prefix-after, refl, replayed_to, rules, run, runs-end, session_due_outputs}
+use Rattle.pac_debug_session.proofs.Common.{subst, suc, sym, took-both, total_frames, walk, walk-same, walk-to-ends, way_on, way_walked}
+use Rattle.pac_debug_session.proofs.Common.{whole_run, zero, ℕ, ◌*◌, ◌++◌, ◌+◌, ◌∙◌, ◌≡◌, ◌≤◌}
 use mathlib.Core.List.{IsPrefix}
-use Rattle.pac_board_course.specs.BoardView.{BoardView, power_on_board_view}
-use Rattle.pac_board_course.specs.Output.{Output}
-use Rattle.pac_board_course.specs.Step.{Moment, Next, frame_ticks}
-use Rattle.pac_board_course.specs.Stop.{Stop}
-use Rattle.pac_board_course.specs.Trace.{by_view, frame_steps}
-use Rattle.pac_board_course.specs.Walk.{Walk, walk}
-use Rattle.pac_board_course.proofs.Runs.{runs-end}
-use Rattle.pac_board_course.proofs.Sinks.{took-both, cut-along, cut-after, cut-something, prefix-after}
-use Rattle.pac_board_course.proofs.Walks.{joined, more-joined, goes-on, walk-to-ends}
-use Rattle.pac_board_course.specs.SinksLaws.{Giving}
-use Rattle.pac_board_course.specs.Sinks.{TookAll}
-use Rattle.pac_board_course.specs.State.{nothing_due, due_outputs}
-use Rattle.pac_board_course.proofs.Begun.{walk-same}
-use Rattle.pac_board_course.specs.Course.{CourseValue, end_of, next_in, way_on, way_walked, outcome_at}
-use Rattle.pac_board_course.specs.declared.outcome.Outcome.{Outcome}
-use Rattle.pac_board_course.specs.Plays.{IsOver, IsCourseHeldUp}
-use Rattle.pac_debug_session.specs.MotionsProofs.{IsFinished, replayed_to}
-use Rattle.pac_debug_session.specs.MotionsLaws.{IsFinishRefused}
-use Rattle.pac_debug_session.specs.Motions.{moved_to}
-use Rattle.pac_debug_session.specs.Playing.{course_of}
-use Rattle.pac_debug_session.specs.Running.{play_of, run, now_at, next_from, limit, outputs_between}
-use Rattle.pac_debug_session.specs.RunningLaws.{whole_run, outputs_from}
-use Rattle.pac_debug_session.specs.Session.{SessionValue}
-use Rattle.pac_debug_session.specs.SessionLaws.{IsSession, session_due_outputs}
 use Rattle.pac_debug_session.proofs.Ends.{start, run-ends, goes-if-counted}
 use Rattle.pac_debug_session.proofs.Indices.{IsOpen, open-up-to, timely, between}
 use Rattle.pac_debug_session.proofs.Ends.{time-near}

@@ -1,16 +1,7 @@
 -- Step by step from an index of a run on: by the course's steps, in time, and as they are told.
-use Rattle.std.proofs.Common.{◌≡◌, ℕ, zero, suc, ◌+◌, ◌*◌, ◌<◌, ◌≤◌, true, Option, Some, List, [], ◌∷◌, sym, ap, subst, ◌∙◌, arith, rules}
-use Rattle.pac_board_course.specs.BoardView.{BoardView}
-use Rattle.pac_board_course.specs.Course.{next_in}
-use Rattle.pac_board_course.specs.ModelLaws.{IsTimely}
-use Rattle.pac_board_course.specs.PastStep.{PastStep}
-use Rattle.pac_board_course.specs.Step.{Moment, Next, Goes}
-use Rattle.pac_board_course.specs.Trails.{stepped, noted}
-use Rattle.pac_board_course.proofs.Trails.{kept-joined}
-use Rattle.pac_debug_session.specs.Past.{told_at}
-use Rattle.pac_debug_session.specs.Playing.{course_of}
-use Rattle.pac_debug_session.specs.Running.{now_at, goes_at}
-use Rattle.pac_debug_session.specs.Session.{SessionValue}
+use Rattle.pac_debug_session.proofs.Common.{BoardView, Goes, IsTimely, List, Moment, Next, Option, PastStep, SessionValue, Some, [], ap}
+use Rattle.pac_debug_session.proofs.Common.{arith, course_of, goes_at, kept-joined, next_in, noted, now_at, rules, stepped, subst, suc, sym}
+use Rattle.pac_debug_session.proofs.Common.{told_at, true, zero, ℕ, ◌*◌, ◌+◌, ◌<◌, ◌∙◌, ◌∷◌, ◌≡◌, ◌≤◌}
 use Rattle.pac_debug_session.proofs.Indices.{IsOpen, open-up-to, one-more, goes-on, goes-early, timely}
 use Rattle.pac_debug_session.proofs.PlayedOn.{steps-same}
 

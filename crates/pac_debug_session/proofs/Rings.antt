@@ -1,10 +1,7 @@
 -- The ring of checkpoints: it is full before one is taken and after, and it is filled one by one.
-use Rattle.std.proofs.lemmas.Grind.{common_steps}
-use Rattle.std.proofs.Common.{◌≡◌, ℕ, ◌+◌, ◌-◌, ◌<◌, ◌≤◌, List, [], ◌∷◌, ◌++◌, length, drop}
-use Rattle.std.proofs.Common.{ap, arith, length-append}
-use Rattle.std.proofs.lemmas.List.{length-drop}
-use Rattle.circular_buffer.specs.Buffer.{keep_last}
-use Rattle.pac_debug_session.specs.declared.kept.SessionSnapshot.{SessionSnapshot}
+use Rattle.pac_debug_session.proofs.Common.{List, SessionSnapshot, [], ap, arith, common_steps, drop, keep_last, length, length-drop, ℕ}
+use Rattle.pac_debug_session.proofs.Common.{◌++◌, ◌+◌, ◌-◌, ◌<◌, ◌∷◌, ◌≡◌, ◌≤◌}
+use Rattle.std.proofs.Common.{length-append}
 
 -- one that is dropped makes room for one that comes
 pub one-for-one : (kept : List SessionSnapshot) (one : SessionSnapshot) (capacity : ℕ) → length kept ≡ 16 → capacity ≡ 16

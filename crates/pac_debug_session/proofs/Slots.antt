@@ -1,19 +1,9 @@
 -- What slots and checkpoints keep, and a session that goes to it.
-use Rattle.std.proofs.Common.{◌≡◌, ℕ, zero, suc, ◌<◌, ◌≤◌, true, List, [], ◌∷◌, length, map, set, get_or, Option, None, Some, rules}
-use Rattle.std.proofs.Common.{sym, ap, subst, ◌∙◌, arith}
-use Rattle.std.proofs.lemmas.List.{get_or-map, map-set, length-set}
-use Rattle.pac_board_course.specs.Stretch.{Stretch}
-use Rattle.pac_board_course.specs.BoardView.{BoardView}
-use Rattle.pac_board_course.specs.Step.{Moment}
-use Rattle.pac_board_course.specs.State.{BoardValue, nothing_due}
-use Rattle.pac_board_course.specs.StateLaws.{restored_board}
-use Rattle.pac_board_course.specs.PastStep.{PastStep}
-use Rattle.pac_debug_session.specs.declared.kept.SessionSnapshot.{SessionSnapshot}
-use Rattle.pac_debug_session.specs.declared.kept.SlotContents.{SlotContents}
-use Rattle.pac_debug_session.specs.Inside.{IsStanding, AreSlotsRight}
-use Rattle.pac_debug_session.specs.Keeping.{Ring, mark_of, IsKeptAt, IsSlot, AreSlots}
-use Rattle.pac_debug_session.specs.Running.{Setting}
-use Rattle.pac_debug_session.specs.SessionLaws.{IsSeen, AreSeen}
+use Rattle.pac_debug_session.proofs.Common.{AreSeen, AreSlots, AreSlotsRight, BoardValue, BoardView, IsKeptAt, IsSeen, IsSlot, IsStanding}
+use Rattle.pac_debug_session.proofs.Common.{List, Moment, None, Option, PastStep, Ring, SessionSnapshot, Setting, SlotContents, Some}
+use Rattle.pac_debug_session.proofs.Common.{Stretch, [], ap, arith, get_or, get_or-map, length, length-set, map, map-set, mark_of}
+use Rattle.pac_debug_session.proofs.Common.{nothing_due, restored_board, rules, set, subst, suc, sym, true, zero, ℕ, ◌<◌, ◌∙◌, ◌∷◌, ◌≡◌}
+use Rattle.pac_debug_session.proofs.Common.{◌≤◌}
 use Rattle.pac_debug_session.proofs.Indices.{open-up-to}
 use Rattle.pac_debug_session.proofs.Steppings.{with_board}
 

@@ -1,18 +1,9 @@
 -- What a session keeps as it leaves an index, over plain values, and what it sees after steps.
-use Rattle.std.proofs.Common.{◌≡◌, ℕ, ◌+◌, ◌-◌, ◌*◌, ◌<◌, ◌≤◌, Option, List, [], ◌∷◌, ◌++◌, length, drop, subst, arith, rules}
-use Rattle.std.proofs.lemmas.Bool.Decides.{nat_tests}
-use Rattle.std.proofs.lemmas.List.{length-append, length-drop}
-use Rattle.pac_board_course.specs.Stretch.{Stretch}
-use Rattle.pac_board_course.specs.State.{BoardValue, nothing_due}
-use Rattle.pac_board_course.specs.PastStep.{PastStep}
-use Rattle.pac_debug_session.specs.declared.kept.SessionSnapshot.{SessionSnapshot}
-use Rattle.pac_debug_session.specs.declared.kept.SlotContents.{SlotContents}
-use Rattle.pac_debug_session.specs.Inside.{IsStanding, AreSlotsRight}
-use Rattle.pac_debug_session.specs.Keeping.{Ring, kept_of, ring_after_index, IsKeptAt, AreCheckpoints}
-use Rattle.pac_debug_session.specs.Motions.{checkpoint_steps, checkpoint_count}
-use Rattle.pac_debug_session.specs.Running.{Setting}
-use Rattle.pac_debug_session.specs.Session.{SessionValue}
-use Rattle.pac_debug_session.specs.SessionLaws.{IsSeen, AreSeen}
+use Rattle.pac_debug_session.proofs.Common.{AreCheckpoints, AreSeen, AreSlotsRight, BoardValue, IsKeptAt, IsSeen, IsStanding, List, Option}
+use Rattle.pac_debug_session.proofs.Common.{PastStep, Ring, SessionSnapshot, SessionValue, Setting, SlotContents, Stretch, [], arith}
+use Rattle.pac_debug_session.proofs.Common.{checkpoint_count, checkpoint_steps, drop, kept_of, length, length-append, length-drop}
+use Rattle.pac_debug_session.proofs.Common.{nat_tests, nothing_due, ring_after_index, rules, subst, ℕ, ◌*◌, ◌++◌, ◌+◌, ◌-◌, ◌<◌, ◌∷◌, ◌≡◌}
+use Rattle.pac_debug_session.proofs.Common.{◌≤◌}
 
 -- ---- checkpoints
 

@@ -1,8 +1,5 @@
 -- A sink that keeps nothing takes any outputs and stays as it is.
-use Rattle.std.proofs.Common.{List, [], ◌∷◌, refl}
-use Rattle.pac_board_course.specs.Output.{Output}
-use Rattle.pac_board_course.specs.Sinks.{TookAll}
-use Rattle.pac_debug_session.specs.Silent.{Swallows}
+use Rattle.pac_debug_session.proofs.Common.{List, Output, Swallows, TookAll, [], refl, ◌∷◌}
 
 pub swallowed : {S : Type 0} (outputs : List Output) (sink : S) → TookAll (Swallows {S = S}) sink outputs sink
 swallowed [] sink = refl

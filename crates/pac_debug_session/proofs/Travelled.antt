@@ -1,31 +1,14 @@
 -- A motion is steps forwards, one after another, up to the least index at which it rests.
-use Rattle.std.proofs.Common.{◌≡◌, ℕ, ◌-◌, ◌<◌, ◌≤◌, Bool, true, false, not, ◌||◌, max, rules}
-use Rattle.std.proofs.Common.{Option, Some, ◌++◌, refl, sym, ap, subst, ◌∙◌, arith, inl, inr}
-use Rattle.std.proofs.lemmas.Bool.{and_parts, and_right, cases_lt, or_parts}
-use Rattle.std.proofs.lemmas.Bool.Decides.{nat_tests}
+use Rattle.pac_debug_session.proofs.Common.{AtStop, Bool, Continue, Frames, Giving, HasStrode, HasTravelled, IsLeap, IsLeapt, IsSession}
+use Rattle.pac_debug_session.proofs.Common.{IsStrideRefused, IsTravelRefused, MeetNothing, Motion, MotionEnd, Option, RestsBy, SessionValue}
+use Rattle.pac_debug_session.proofs.Common.{Some, Steps, Stop, ToEnd, TookAll, and_parts, and_right, ap, arith, breaks_at, cases_lt}
+use Rattle.pac_debug_session.proofs.Common.{cut-after, cut-along, false, goes_at, has_met, heeded_by, heeded_if, heeds, inl, inr, is_done}
+use Rattle.pac_debug_session.proofs.Common.{is_late, longest_stride, max, min, motion_ending, moved_to, nat_tests, not, not-both, or_parts}
+use Rattle.pac_debug_session.proofs.Common.{outputs_between, prefix-after, refl, rests, rules, steps_left, stop_at, stop_of, subst, sym}
+use Rattle.pac_debug_session.proofs.Common.{took-both, true, ℕ, ◌++◌, ◌-◌, ◌<◌, ◌||◌, ◌∙◌, ◌≡◌, ◌≤◌}
 use mathlib.Core.List.{IsPrefix}
-use Rattle.pac_board_course.specs.Stop.{Stop}
-use Rattle.pac_board_course.proofs.Walks.{not-both}
-use Rattle.pac_board_course.proofs.Sinks.{took-both, cut-along, cut-after, prefix-after}
-use Rattle.pac_board_course.specs.SinksLaws.{Giving}
-use Rattle.pac_board_course.specs.Sinks.{TookAll}
-use Rattle.pac_debug_session.specs.declared.motion.MotionEnd.{MotionEnd}
-use Rattle.pac_debug_session.specs.declared.motion.MotionEnd.TheVariants.{AtStop}
-use Rattle.pac_debug_session.specs.declared.motion.Motion.{Motion}
-use Rattle.pac_debug_session.specs.declared.motion.Motion.TheVariants.{Steps, Continue, Frames, ToEnd}
-use Rattle.pac_debug_session.specs.Motions.{is_done, has_met, rests, motion_ending, RestsBy, moved_to, HasTravelled}
-use Rattle.pac_debug_session.specs.MotionsProofs.{stop_of}
-use Rattle.pac_debug_session.specs.MotionsLaws.{IsTravelRefused}
-use Rattle.pac_debug_session.specs.Running.{is_late, stop_at}
-use Rattle.pac_debug_session.specs.Running.{goes_at, outputs_between}
-use Rattle.pac_debug_session.specs.Session.{SessionValue, breaks_at}
-use Rattle.pac_debug_session.specs.SessionLaws.{IsSession}
-use Rattle.pac_debug_session.specs.Strides.{MeetNothing, IsLeap, heeded_by, steps_left, longest_stride, HasStrode, IsStrideRefused}
 use Rattle.pac_debug_session.proofs.Forwards.{between-joined, between-self}
-use Rattle.pac_debug_session.specs.Breakpoints.{heeded_if}
-use Rattle.pac_debug_session.specs.Strides.{heeds, IsLeapt}
 use Rattle.pac_debug_session.proofs.Ends.{IsWhole, whole-late, whole-stopped}
-use Rattle.std.proofs.Common.{min, rules}
 
 -- ---- where a motion rests
 

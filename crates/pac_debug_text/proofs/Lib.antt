@@ -1,3 +1,4 @@
+pub mod Common
 mod NumberLemmas
 mod Parts
 mod PeekLemmas

@@ -1,9 +1,6 @@
 -- A number read digit by digit, from the left, and an address of four digits.
-use Rattle.std.proofs.Common.{true, get_or, length, ◌≡◌, ℕ, ◌+◌, ◌*◌, List, [], ◌∷◌, Some, arith, rules}
-use Rattle.std.specs.Char.{is_ascii_hexdigit}
-use Rattle.pac_lex.specs.Numbers.{value_of_digit}
-use Rattle.pac_debug_text.specs.NumbersProofs.{hex_digit_number}
-use Rattle.pac_debug_text.specs.Numbers.{address_of}
+use Rattle.pac_debug_text.proofs.Common.{List, Some, [], address_of, arith, get_or, hex_digit_number, is_ascii_hexdigit, length, rules}
+use Rattle.pac_debug_text.proofs.Common.{true, value_of_digit, ℕ, ◌*◌, ◌+◌, ◌∷◌, ◌≡◌}
 
 -- a hexadecimal digit, by what it counts
 record IsDigit (c n : ℕ) : Type 0 where

@@ -1,9 +1,6 @@
 -- The last part of a text that is gathered in parts.
-use Rattle.std.proofs.Common.{ℕ, List, [], ◌++◌, Result, Ok, Err}
-use Rattle.pac_out.specs.declared.counted.Counted.{Counted}
-use Rattle.pac_out.specs.declared.WriteFault.{WriteFault}
-use Rattle.pac_out.specs.Pending.{Gathers}
-use Rattle.pac_out.proofs.Gathering.{Leaves, leaves-less, leaves-refused, leaves-nothing}
+use Rattle.pac_debug_text.proofs.Common.{Counted, Err, Gathers, Leaves, List, Ok, Result, WriteFault, [], leaves-less, leaves-nothing}
+use Rattle.pac_debug_text.proofs.Common.{leaves-refused, ℕ, ◌++◌}
 
 pub gathers-last : {W A : Type 0} {took : W → List ℕ → W → Type 0} {waiting text : List ℕ} {old : Counted W} (refused : W → W → Type 0)
     (last : List ℕ) (result : Result A WriteFault) (later : List ℕ) (new : Counted W) {mid_later : List ℕ} {mid : Counted W}

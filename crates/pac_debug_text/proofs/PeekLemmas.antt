@@ -1,11 +1,7 @@
 -- Bytes, rows and instructions one after another.
-use Rattle.std.proofs.Common.{◌≡◌, ℕ, ◌+◌, ◌-◌, ◌<◌, List, [], ◌++◌, ap, rules}
-use Rattle.std.specs.Prelude.{min}
-use Rattle.std.specs.List.{flat_map}
-use Rattle.pac_dis.specs.Numbers.{wrapped_address}
-use Rattle.pac_dis.specs.Texts.{size_at}
-use Rattle.pac_dis.specs.Lines.{line_text}
-use Rattle.pac_debug_text.specs.Peeks.{bytes_from, spaced_byte, row_text, rows_text, memory_row_bytes, memory_text, instructions_text}
+use Rattle.pac_debug_text.proofs.Common.{List, [], ap, bytes_from, flat_map, instructions_text, line_text, memory_row_bytes, memory_text}
+use Rattle.pac_debug_text.proofs.Common.{min, row_text, rows_text, rules, size_at, spaced_byte, wrapped_address, ℕ, ◌++◌, ◌+◌, ◌-◌, ◌<◌}
+use Rattle.pac_debug_text.proofs.Common.{◌≡◌}
 
 -- the bytes that are left, as text
 abbrev pub bytes_text : (ℕ → ℕ) → ℕ → ℕ → List ℕ

@@ -1,12 +1,7 @@
 -- The instruction at the front of some bytes, found in their first four.
-use Rattle.std.proofs.lemmas.Grind.{common_steps}
-use Rattle.std.proofs.Common.{◌≡◌, ℕ, ◌≤◌, ◌<◌, Some, None, List, length, take, sym, ◌∙◌, ap, arith, rules}
-use Rattle.std.specs.Prelude.{option_and_then}
-use Rattle.std.proofs.lemmas.List.{length-take}
-use Rattle.pac_table.proofs.Lengths.{length-code}
-use Rattle.pac_table.specs.Instructions.{Instruction, code, decoded_instruction}
-use Rattle.pac_code.specs.Codes.{Begins}
-use Rattle.pac_dis.specs.Front.{first_four, fitting_instruction, front_instruction}
+use Rattle.pac_dis.proofs.Common.{Begins, Instruction, List, None, Some, ap, arith, code, common_steps, decoded_instruction, first_four}
+use Rattle.pac_dis.proofs.Common.{fitting_instruction, front_instruction, length, length-code, length-take, option_and_then, rules, sym}
+use Rattle.pac_dis.proofs.Common.{take, ℕ, ◌<◌, ◌∙◌, ◌≡◌, ◌≤◌}
 
 -- a front of the bytes that is no longer than four is one of the four
 take-first_four : (n : ℕ) (bytes : List ℕ) → n ≤ 4 → n ≤ length bytes → take n (first_four bytes) ≡ take n bytes

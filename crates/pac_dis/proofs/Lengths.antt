@@ -1,31 +1,13 @@
 -- How long texts are: that of an instruction has 16 bytes at most.
-use Rattle.std.proofs.Common.{◌≡◌, ℕ, suc, ◌+◌, ◌/◌, ◌<◌, ◌≤◌, ℤ, Bool, true, nat_le, nat_lt, ◌&&◌, Option, None, List, [], ◌∷◌, length}
-use Rattle.std.proofs.Common.{get_or, not, ◌||◌, refl, subst, arith, rules}
-use Rattle.std.specs.Prelude.{map, unwrap_or, max}
-use Rattle.std.specs.Option.{option_map_or}
-use Rattle.std.specs.List.{list_all}
-use Rattle.std.proofs.lemmas.List.{length-append}
-use Rattle.std.proofs.lemmas.Bool.{leb-true, ltb-true, and_parts}
-use Rattle.std.proofs.lemmas.Int.{ints}
-use Rattle.pac_lemmas.proofs.Searches.{list_all-get_or}
-use Rattle.pac_table.specs.declared.patterns.Immediate.{Immediate}
-use Rattle.pac_table.specs.declared.operands.Shape.{Shape}
-use Rattle.pac_table.specs.declared.operands.Name.{Name}
-use Rattle.pac_table.specs.declared.operands.NumberKind.{NumberKind}
+use Rattle.pac_dis.proofs.Common.{Absent, AlternateAf, AtName, AtNumber, Bool, FirstField, Immediate, Indexed, Instruction, IsDisplacement}
+use Rattle.pac_dis.proofs.Common.{IsInstruction, IsSignedByte, List, Name, Named, None, Number, NumberKind, Option, Row, SecondField, Shape}
+use Rattle.pac_dis.proofs.Common.{[], and_parts, arith, blank_code, byte_text, comma_code, displacement_text, get_or, hex_byte, hex_word}
+use Rattle.pac_dis.proofs.Common.{in_parentheses, instruction_text, ints, leading_zero, leb-true, length, length-append, list_all}
+use Rattle.pac_dis.proofs.Common.{list_all-get_or, lists, ltb-true, map, marked_operands, max, name_text, names_in, nat_le, nat_lt, not}
+use Rattle.pac_dis.proofs.Common.{number_text, operand_text, operand_texts, operands_of, operation_name, operation_text, option_map_or}
+use Rattle.pac_dis.proofs.Common.{pattern_of, refl, row-passes, row_at, rules, subst, suc, table, text_of_name, true, unwrap_or, word_text}
+use Rattle.pac_dis.proofs.Common.{written_operands, ℕ, ℤ, ◌&&◌, ◌+◌, ◌/◌, ◌<◌, ◌||◌, ◌∷◌, ◌≡◌, ◌≤◌}
 use Rattle.pac_table.specs.declared.operands.NumberKind.TheVariants as kind
-use Rattle.pac_table.specs.declared.operands.Shape.TheVariants.{Absent, Named, AlternateAf, AtName, FirstField, SecondField, Indexed}
-use Rattle.pac_table.specs.declared.operands.Shape.TheVariants.{Number, AtNumber}
-use Rattle.pac_table.specs.declared.table.Row.{Row}
-use Rattle.pac_table_names.specs.Names.{text_of_name, names_in, written_operands}
-use Rattle.pac_table.specs.Mnemonics.{operation_name}
-use Rattle.pac_table.specs.Patterns.{lists, IsDisplacement, IsSignedByte}
-use Rattle.pac_table.specs.Table.{table}
-use Rattle.pac_table.specs.Instructions.{Instruction, IsInstruction, row_at, operands_of, pattern_of}
-use Rattle.pac_table.proofs.TableRules.{row-passes}
-use Rattle.pac_num.specs.Hexadecimal.{hex_byte, hex_word}
-use Rattle.pac_dis.specs.Numerals.{leading_zero, byte_text, word_text, displacement_text}
-use Rattle.pac_dis.specs.Texts.{number_text, name_text, in_parentheses, operand_text, blank_code, comma_code, marked_operands}
-use Rattle.pac_dis.specs.Texts.{operand_texts, instruction_text, operation_text}
 
 -- ---- numbers
 

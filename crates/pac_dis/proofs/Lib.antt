@@ -1,3 +1,4 @@
+pub mod Common
 pub mod Fronts
 pub mod Lengths
 pub mod Writings

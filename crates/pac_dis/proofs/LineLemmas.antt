@@ -1,9 +1,6 @@
 -- Lines one after another.
-use Rattle.std.proofs.Common.{rules, ◌≡◌, ℕ, zero, suc, ◌+◌, ◌-◌, ◌<◌, ◌≤◌, List, [], ◌∷◌, ◌++◌, length, drop, refl, ap, arith}
-use Rattle.std.proofs.lemmas.Grind.{common_steps}
-use Rattle.pac_num.specs.Numbers.{wrapped_address}
-use Rattle.pac_dis.specs.Texts.{size_at}
-use Rattle.pac_dis.specs.Lines.{line_text, lines_after}
+use Rattle.pac_dis.proofs.Common.{List, [], ap, arith, common_steps, drop, length, line_text, lines_after, refl, rules, size_at, suc}
+use Rattle.pac_dis.proofs.Common.{wrapped_address, zero, ℕ, ◌++◌, ◌+◌, ◌-◌, ◌<◌, ◌∷◌, ◌≡◌, ◌≤◌}
 
 address-same : (at : ℕ) → at < 65536 → at ≡ wrapped_address (at + 0)
 address-same at below = omega (arith, below)

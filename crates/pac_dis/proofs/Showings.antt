@@ -1,11 +1,6 @@
 -- What is shown of some bytes, by what they begin with.
-use Rattle.std.proofs.Common.{rules, arith, ◌≡◌, ◌≤◌, ℕ, List, length, Option, Some, None, sym, subst}
-use Rattle.std.proofs.lemmas.Grind.{common_steps}
-use Rattle.std.specs.Prelude.{slice_index}
-use Rattle.pac_code.specs.Codes.{Begins}
-use Rattle.pac_table.specs.Instructions.{Instruction, IsInstruction, code}
-use Rattle.pac_dis.specs.TextsProofs.{Disassembles}
-use Rattle.pac_dis.specs.Texts.{data_text, instruction_text}
+use Rattle.pac_dis.proofs.Common.{Begins, Disassembles, Instruction, IsInstruction, List, None, Option, Some, arith, code, common_steps}
+use Rattle.pac_dis.proofs.Common.{data_text, instruction_text, length, rules, slice_index, subst, sym, ℕ, ◌≡◌, ◌≤◌}
 use Rattle.pac_dis.proofs.Fronts.{begins-within}
 
 -- an instruction, which is the only one

@@ -1,22 +1,10 @@
 -- The operands of an instruction one after another, and the numbers that are written in them.
-use Rattle.std.proofs.Common.{◌≡◌, ◌<◌, Bool, true, ◌&&◌, nat_le, nat_lt, if◌then◌else◌, rules, refl}
-use Rattle.std.specs.List.{list_all}
-use Rattle.std.proofs.lemmas.Bool.{and_parts}
-use Rattle.pac_table.specs.declared.patterns.Immediate.{Immediate}
+use Rattle.pac_dis.proofs.Common.{AtNumber, Bool, Immediate, Instruction, IsInstruction, Number, NumberKind, Operands, Row, Shape}
+use Rattle.pac_dis.proofs.Common.{ShowsEach, ShowsNumbers, and_parts, if◌then◌else◌, list_all, listed_shapes, nat_le, nat_lt, operands_of}
+use Rattle.pac_dis.proofs.Common.{pattern_of, refl, row-passes, rules, table, true, word_limit, written_operands, ◌&&◌, ◌<◌, ◌≡◌}
 use Rattle.pac_table.specs.declared.operands.Name.TheVariants as name
-use Rattle.pac_table.specs.declared.operands.Shape.{Shape}
 use Rattle.pac_table.specs.declared.operands.Shape.TheVariants as shape
-use Rattle.pac_table.specs.declared.operands.NumberKind.{NumberKind}
 use Rattle.pac_table.specs.declared.operands.NumberKind.TheVariants as kind
-use Rattle.pac_table.specs.declared.operands.Shape.TheVariants.{Number, AtNumber}
-use Rattle.pac_table.specs.declared.table.Row.{Row}
-use Rattle.pac_table_names.specs.Names.{listed_shapes, written_operands}
-use Rattle.pac_table.specs.Patterns.{word_limit}
-use Rattle.pac_table.specs.Table.{table}
-use Rattle.pac_table.specs.Instructions.{Instruction, IsInstruction, operands_of, pattern_of}
-use Rattle.pac_table.proofs.TableRules.{row-passes}
-use Rattle.pac_table.specs.declared.operands.Operands.{Operands}
-use Rattle.pac_dis.specs.Ranges.{ShowsNumbers, ShowsEach}
 
 -- ---- numbers in range
 

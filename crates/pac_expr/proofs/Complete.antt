@@ -1,19 +1,10 @@
 -- The tokens of each ranked tree give that tree back: so no two of them have one spelling.
-use Rattle.std.proofs.lemmas.Grind.{common_steps}
-use Rattle.std.proofs.Common.{◌≡◌, ◌↔◌, ℕ, ℤ, ◌-◌, ◌<◌, ◌≤◌, List, [], ◌∷◌, ◌++◌, Option, Some, None, IfSome, option_map}
-use Rattle.std.proofs.Common.{refl, sym, ap, ◌∙◌, arith, append_assoc, append-nil, rules}
-use Rattle.std.proofs.lemmas.Bool.{le-leb}
-use Rattle.pac_expr.specs.declared.expr.Sign.{Sign}
-use Rattle.pac_expr.specs.declared.expr.Operator.{Operator}
-use Rattle.pac_expr.specs.Trees.{Tree, atom, group, signed, joined, Mark, closing, sign_mark, arithmetic, spelling, rank_of_operator}
-use Rattle.pac_expr.specs.Trees.{sum_rank, IsRanked}
-use Rattle.pac_expr.specs.TreesProofs.{IsExpression, token_marks}
-use Rattle.pac_expr.specs.Values.{ValueResult, tree_value}
-use Rattle.pac_expr.specs.ValuesProofs.{HasValue}
-use Rattle.pac_lex.specs.declared.token.Token.{Token}
-use Rattle.pac_expr.specs.ParsingProofs.{Waiting, sign, left, parenthesis, settled_operand, needs, stands, state_after_operator, whole_tree}
-use Rattle.pac_expr.specs.ParsingProofs.{tree_onward, tree_of, completed_tree, waiting_rank}
-use Rattle.pac_expr.specs.Reading.{highest_rank}
+use Rattle.pac_expr.proofs.Common.{HasValue, IfSome, IsExpression, IsRanked, List, Mark, None, Operator, Option, Sign, Some, Token, Tree}
+use Rattle.pac_expr.proofs.Common.{ValueResult, Waiting, [], ap, append-nil, append_assoc, arith, arithmetic, atom, closing, common_steps}
+use Rattle.pac_expr.proofs.Common.{completed_tree, group, highest_rank, joined, le-leb, left, needs, option_map, parenthesis}
+use Rattle.pac_expr.proofs.Common.{rank_of_operator, refl, rules, settled_operand, sign, sign_mark, signed, spelling, stands}
+use Rattle.pac_expr.proofs.Common.{state_after_operator, sum_rank, sym, token_marks, tree_of, tree_onward, tree_value, waiting_rank}
+use Rattle.pac_expr.proofs.Common.{whole_tree, ℕ, ℤ, ◌++◌, ◌-◌, ◌<◌, ◌↔◌, ◌∙◌, ◌∷◌, ◌≡◌, ◌≤◌}
 use Rattle.pac_expr.proofs.Sound.{found}
 
 -- what waits first is completed where it binds as tight, and else left

@@ -1,3 +1,4 @@
+pub mod Common
 pub mod Sound
 pub mod Complete
 pub mod Undefined

@@ -1,19 +1,11 @@
 -- How parts of an expression join.
-use Rattle.std.proofs.lemmas.Grind.{common_steps}
-use Rattle.std.proofs.lemmas.Bool.{eqb-true}
-use Rattle.pac_lex.specs.declared.token.Token.{Token}
-use Rattle.std.proofs.Common.{◌≡◌, ◌==◌, true, false, length, ℕ, ℤ, ◌-◌, ◌≤◌, List, [], ◌∷◌, Option, Some, None, MatchOption, option_map}
-use Rattle.std.proofs.Common.{refl, ap, ap₂, ◌∙◌, arith, rules}
-use Rattle.pac_expr.specs.declared.expr.Sign.{Sign}
+use Rattle.pac_expr.proofs.Common.{Add, Atom, BeginsNoTree, BeginsWithTree, EndsTree, List, Mark, MatchOption, None, Operator, Option, Sign}
+use Rattle.pac_expr.proofs.Common.{Some, Token, Tree, ValueResult, Waiting, [], ap, ap₂, arith, arithmetic, atom, atom_in, atom_value}
+use Rattle.pac_expr.proofs.Common.{closing, common_steps, eqb-true, false, group, highest_rank, joined, joined_value, left, length, needs}
+use Rattle.pac_expr.proofs.Common.{opening, option_map, parenthesis, rank_of_operator, refl, rules, sign, sign_mark, sign_value, signed}
+use Rattle.pac_expr.proofs.Common.{single, stands, sum_rank, token_marks, tree_of, tree_onward, tree_value, true, ℕ, ℤ, ◌-◌, ◌==◌, ◌∙◌, ◌∷◌}
+use Rattle.pac_expr.proofs.Common.{◌≡◌, ◌≤◌}
 use Rattle.pac_expr.specs.declared.expr.Sign.TheVariants as signs
-use Rattle.pac_expr.specs.declared.expr.Operator.{Operator}
-use Rattle.pac_expr.specs.declared.expr.Operator.TheVariants.{Add}
-use Rattle.pac_expr.specs.Trees.{Atom, Tree, atom, group, signed, joined, Mark, single, opening, closing, arithmetic}
-use Rattle.pac_expr.specs.Trees.{sign_mark, rank_of_operator, sum_rank}
-use Rattle.pac_expr.specs.TreesProofs.{token_marks}
-use Rattle.pac_expr.specs.ParsingProofs.{Waiting, sign, left, parenthesis, needs, stands, tree_onward, tree_of}
-use Rattle.pac_expr.specs.Values.{ValueResult, atom_value, sign_value, joined_value, tree_value}
-use Rattle.pac_expr.specs.Reading.{highest_rank, BeginsWithTree, BeginsNoTree, EndsTree, atom_in}
 use Rattle.pac_expr.proofs.Complete.{sign-runs}
 
 -- ---- an operand

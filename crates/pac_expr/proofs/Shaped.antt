@@ -1,10 +1,8 @@
 -- Whether there is a tree, by what is left of a state without its trees.
-use Rattle.std.proofs.Common.{◌≡◌, ◌==◌, ℕ, ◌≤◌, Bool, false, cond, List, [], ◌∷◌, Option, Some, None, is_some, rules, option_map, nat_le}
-use Rattle.std.proofs.Common.{refl, arith}
-use Rattle.pac_expr.specs.Trees.{Tree, Mark, closing, sum_rank}
-use Rattle.pac_expr.specs.ParsingProofs.{Waiting, parenthesis, completed_tree, waiting_rank, settled_operand, ParseState, needs}
-use Rattle.pac_expr.specs.ParsingProofs.{closed_group, state_after_mark, whole_tree, finished_tree, tree_onward, tree_of}
-use Rattle.pac_expr.specs.Shape.{open_parentheses, shape_of, continued_shape, next_shape, ends_expression}
+use Rattle.pac_expr.proofs.Common.{Bool, List, Mark, None, Option, ParseState, Some, Tree, Waiting, [], arith, closed_group, closing}
+use Rattle.pac_expr.proofs.Common.{completed_tree, cond, continued_shape, ends_expression, false, finished_tree, is_some, nat_le, needs}
+use Rattle.pac_expr.proofs.Common.{next_shape, open_parentheses, option_map, parenthesis, refl, rules, settled_operand, shape_of}
+use Rattle.pac_expr.proofs.Common.{state_after_mark, sum_rank, tree_of, tree_onward, waiting_rank, whole_tree, ℕ, ◌==◌, ◌∷◌, ◌≡◌, ◌≤◌}
 
 -- settling leaves the open parentheses
 keeps-if : (b : Bool) (n : ℕ) (t : Tree) (w : Waiting) (waiting : List Waiting) (s : Tree × List Waiting) → nat_le (waiting_rank w) n ≡ b

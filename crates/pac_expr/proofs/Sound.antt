@@ -1,14 +1,10 @@
 -- What the tokens taken so far spell: a tree that is found is ranked, and the tokens are its.
-use Rattle.std.proofs.lemmas.Grind.{common_steps}
-use Rattle.std.proofs.Common.{◌≡◌, ℕ, ◌<◌, ◌≤◌, Bool, cond, List, [], ◌∷◌, ◌++◌, Option, Some, None, IfSome, nat_le, refl}
-use Rattle.std.proofs.Common.{sym, ap, ◌∙◌, arith, append_assoc, append-nil, rules}
-use Rattle.pac_expr.specs.declared.expr.Operator.{Operator}
-use Rattle.pac_expr.specs.declared.expr.Operator.TheVariants.{Add, Subtract, Multiply, Divide}
-use Rattle.pac_expr.specs.Trees.{Tree, Mark, opening, closing, arithmetic, sign_mark, spelling, rank_of_operator, sum_rank, IsRanked}
-use Rattle.pac_expr.specs.ParsingProofs.{Waiting, sign, left, parenthesis, completed_tree, waiting_rank, settled_operand, ParseState, needs}
-use Rattle.pac_expr.specs.ParsingProofs.{stands, state_after_operator}
-use Rattle.pac_expr.specs.Reading.{highest_rank}
-use Rattle.pac_expr.specs.ParsingProofs.{closed_group, state_after_mark, whole_tree, finished_tree, tree_onward, tree_of}
+use Rattle.pac_expr.proofs.Common.{Add, Bool, Divide, IfSome, IsRanked, List, Mark, Multiply, None, Operator, Option, ParseState, Some}
+use Rattle.pac_expr.proofs.Common.{Subtract, Tree, Waiting, [], ap, append-nil, append_assoc, arith, arithmetic, closed_group, closing}
+use Rattle.pac_expr.proofs.Common.{common_steps, completed_tree, cond, finished_tree, highest_rank, left, nat_le, needs, opening}
+use Rattle.pac_expr.proofs.Common.{parenthesis, rank_of_operator, refl, rules, settled_operand, sign, sign_mark, spelling, stands}
+use Rattle.pac_expr.proofs.Common.{state_after_mark, state_after_operator, sum_rank, sym, tree_of, tree_onward, waiting_rank, whole_tree, ℕ}
+use Rattle.pac_expr.proofs.Common.{◌++◌, ◌<◌, ◌∙◌, ◌∷◌, ◌≡◌, ◌≤◌}
 
 -- the tokens that it was read from
 abbrev own_marks : Waiting → List Mark

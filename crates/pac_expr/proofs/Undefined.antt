@@ -1,13 +1,7 @@
 -- A value is refused for an undefined name exactly where the tree has one.
-use Rattle.std.proofs.Common.{◌≡◌, ◌↔◌, ℕ, ℤ, List, Option, Some, None, Err, ap, inl, inr, ◌⊎◌}
-use Rattle.std.proofs.Common.{MatchOption, option_map, ok_or, arith, rules}
-use Rattle.std.proofs.lemmas.Option.{same_Some, none-some}
-use Rattle.pac_expr.specs.declared.expr.Sign.{Sign}
-use Rattle.pac_expr.specs.declared.expr.Operator.{Operator}
-use Rattle.pac_expr.specs.declared.evaluation.ValueError.TheVariants.{Undefined}
-use Rattle.pac_expr.specs.Trees.{name, Tree, atom, group, signed, joined}
-use Rattle.pac_expr.specs.Values.{ValueResult, sign_value, joined_value, tree_value}
-use Rattle.pac_expr.specs.ValuesLaws.{HasUndefined}
+use Rattle.pac_expr.proofs.Common.{Err, HasUndefined, List, MatchOption, None, Operator, Option, Sign, Some, Tree, Undefined, ValueResult}
+use Rattle.pac_expr.proofs.Common.{ap, arith, atom, group, inl, inr, joined, joined_value, name, none-some, ok_or, option_map, rules}
+use Rattle.pac_expr.proofs.Common.{same_Some, sign_value, signed, tree_value, ℕ, ℤ, ◌↔◌, ◌≡◌, ◌⊎◌}
 
 abbrev IsUndefined : ValueResult → Type 0
 IsUndefined answer = answer ≡ Err Undefined

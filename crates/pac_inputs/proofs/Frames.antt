@@ -1,12 +1,7 @@
 -- A script's table of last frames, and the lines that it stands for.
-use Rattle.std.proofs.Common.{◌≡◌, ℕ, ◌+◌, ◌-◌, ◌<◌, ◌≤◌, List, [], ◌∷◌, ◌++◌, length, get_or, refl, ap, arith, sub-one, inl, inr}
-use Rattle.std.specs.Prelude.{nat_le}
-use Rattle.std.proofs.lemmas.Bool.{cases_Bool, lt-ltb, le-ltb}
-use Rattle.std.proofs.lemmas.Bool.Decides.{nat_tests}
-use Rattle.pac_inputs.specs.declared.line.Stretch.{Stretch}
-use Rattle.pac_inputs.specs.declared.script.HeldUntil.{HeldUntil}
-use Rattle.pac_inputs.specs.Stretches.{total_frames, held_after}
-use Rattle.pac_inputs.specs.Entries.{stretch_after, entry_stretches, Rises, held_up_to}
+use Rattle.pac_inputs.proofs.Common.{HeldUntil, List, Rises, Stretch, [], ap, arith, cases_Bool, entry_stretches, get_or, held_after}
+use Rattle.pac_inputs.proofs.Common.{held_up_to, inl, inr, le-ltb, length, lt-ltb, nat_le, nat_tests, refl, stretch_after, sub-one}
+use Rattle.pac_inputs.proofs.Common.{total_frames, ℕ, ◌++◌, ◌+◌, ◌-◌, ◌<◌, ◌∷◌, ◌≡◌, ◌≤◌}
 
 ends : (before : ℕ) (entry : HeldUntil) → before ≤ entry.end → before + (entry.end - before) ≡ entry.end
 ends before entry h = omega (arith, h)

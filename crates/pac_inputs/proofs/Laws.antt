@@ -1,18 +1,9 @@
 -- A text is read as the script that it is, and refused at the fault that it has.
-use Rattle.std.proofs.lemmas.Grind.{common_steps}
-use Rattle.std.proofs.Common.{◌≡◌, ℕ, ◌+◌, ◌≤◌, List, [], ◌∷◌, ◌++◌, length, Some, None, Result, Ok, Err, refl, sym, ap, ◌∙◌, subst, arith}
-use Rattle.std.proofs.Common.{inl, inr, ◌⊎◌, append-nil, append_assoc, rules}
-use Rattle.std.specs.Prelude.{IfOk, IfErr}
-use Rattle.std.proofs.lemmas.Bool.{cases_lt, le-ltb}
-use Rattle.std.specs.Str.Lines.{lines}
-use Rattle.pac_inputs.specs.declared.fault.ScriptCode.{ScriptCode}
-use Rattle.pac_inputs.specs.declared.fault.ScriptCode.TheVariants.{Length}
-use Rattle.pac_inputs.specs.declared.fault.ScriptFault.{ScriptFault}
-use Rattle.pac_inputs.specs.declared.fault.ScriptError.{ScriptError}
-use Rattle.pac_inputs.specs.declared.line.Stretch.{Stretch}
-use Rattle.pac_inputs.specs.Stretches.{total_frames}
-use Rattle.pac_inputs.specs.Script.{meaning, script_from_line, script_of}
-use Rattle.pac_inputs.specs.ScriptProofs.{ScriptGives, OnScriptFault, Says, Meaning, ScriptOrFault, IsScript, IsLineFault, HasScriptFault}
+use Rattle.pac_inputs.proofs.Common.{Err, HasScriptFault, IfErr, IfOk, IsLineFault, IsScript, Length, List, Meaning, None, Ok}
+use Rattle.pac_inputs.proofs.Common.{OnScriptFault, Result, Says, ScriptCode, ScriptError, ScriptFault, ScriptGives, ScriptOrFault, Some}
+use Rattle.pac_inputs.proofs.Common.{Stretch, [], ap, append-nil, append_assoc, arith, cases_lt, common_steps, inl, inr, le-ltb, length}
+use Rattle.pac_inputs.proofs.Common.{lines, meaning, refl, rules, script_from_line, script_of, subst, sym, total_frames, ℕ, ◌++◌, ◌+◌, ◌∙◌}
+use Rattle.pac_inputs.proofs.Common.{◌∷◌, ◌≡◌, ◌≤◌, ◌⊎◌}
 use Rattle.pac_inputs.proofs.Frames.{total-after}
 
 abbrev at : ScriptCode → ℕ → ScriptFault

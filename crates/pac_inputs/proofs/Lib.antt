@@ -1,3 +1,4 @@
+pub mod Common
 pub mod NameLemmas
 pub mod Frames
 pub mod Searches

@@ -1,16 +1,8 @@
 -- Names read one after another, and bytes that can be no name.
-use Rattle.std.proofs.Common.{◌≡◌, ℕ, zero, suc, ◌+◌, ◌<◌, get_or, arith, Bool, true, List, [], ◌∷◌, length, Option, Some, None, refl, sym}
-use Rattle.std.proofs.Common.{inl, inr, nat_eq, subst, Bor, option_map}
-use Rattle.std.specs.List.{list_all, slice_split}
-use Rattle.std.specs.Str.{IsUtf8}
-use Rattle.std.proofs.lemmas.Str.{IsUtf8-from_ascii}
-use Rattle.std.proofs.lemmas.Bool.{cases_Bool, and_parts, ltb-true}
-use Rattle.std.specs.Char.{is_ascii}
-use Rattle.std.specs.Cmp.Lexicographic.{pointwise, same_text}
-use Rattle.bitflags.specs.Sets.{Row, find_row, find_name}
-use Rattle.pac_lemmas.proofs.Parts.{last-part, more-parts}
-use Rattle.pac_inputs.specs.Inputs.{input_bits}
-use Rattle.pac_inputs.specs.Words.{is_comma_byte, with_names}
+use Rattle.pac_inputs.proofs.Common.{Bool, Bor, IsUtf8, IsUtf8-from_ascii, List, None, Option, Row, Some, [], and_parts, arith, cases_Bool}
+use Rattle.pac_inputs.proofs.Common.{find_name, find_row, get_or, inl, input_bits, inr, is_ascii, is_comma_byte, last-part, length}
+use Rattle.pac_inputs.proofs.Common.{list_all, ltb-true, more-parts, nat_eq, option_map, pointwise, refl, same_text, slice_split, subst}
+use Rattle.pac_inputs.proofs.Common.{suc, sym, true, with_names, zero, ℕ, ◌+◌, ◌<◌, ◌∷◌, ◌≡◌}
 
 ascii-at : (bytes : List ℕ) → list_all is_ascii bytes ≡ true → (i : ℕ) → get_or bytes i 0 < 128
 ascii-at [] all i = omega arith

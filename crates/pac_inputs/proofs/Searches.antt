@@ -1,13 +1,7 @@
 -- The entry of a frame, found by halving a table whose last frames rise.
-use Rattle.std.proofs.Common.{◌≡◌, ℕ, zero, suc, ◌<◌, ◌≤◌, Bool, true, false, ltb, List, [], ◌∷◌, length, get_or, refl, arith, add-one}
-use Rattle.std.specs.Prelude.{nat_le}
-use Rattle.std.specs.List.{AllWithin, AllAdjacentBelow}
-use Rattle.std.specs.List.Sorted.{IsPartitionedBy}
-use Rattle.std.proofs.lemmas.List.Sorted.{IsNonDecreasingBy-from_all_adjacent, IsPartitionedBy-ltb}
-use Rattle.std.proofs.lemmas.Bool.Decides.{nat_tests}
-use Rattle.pac_inputs.specs.declared.script.HeldUntil.{HeldUntil}
-use Rattle.pac_inputs.specs.Inputs.{mask}
-use Rattle.pac_inputs.specs.Entries.{Rises, held_up_to}
+use Rattle.pac_inputs.proofs.Common.{AllAdjacentBelow, AllWithin, Bool, HeldUntil, IsNonDecreasingBy-from_all_adjacent, IsPartitionedBy}
+use Rattle.pac_inputs.proofs.Common.{IsPartitionedBy-ltb, List, Rises, [], add-one, arith, false, get_or, held_up_to, length, ltb, mask}
+use Rattle.pac_inputs.proofs.Common.{nat_le, nat_tests, refl, suc, true, zero, ℕ, ◌<◌, ◌∷◌, ◌≡◌, ◌≤◌}
 
 -- whether an entry ends before a frame
 abbrev pub is_over : ℕ → HeldUntil → Bool

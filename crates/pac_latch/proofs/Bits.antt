@@ -1,13 +1,8 @@
 -- The latch's bits as a list, and as a byte.
-use Rattle.std.proofs.Common.{◌≡◌, ◌≢◌, ℕ, zero, suc, ◌+◌, ◌*◌, ◌/◌, ◌%◌, ◌^◌, ◌<◌, ◌==◌, Bool, true, false, refl, sym, ap, ◌∙◌, arith}
-use Rattle.std.proofs.Common.{List, [], ◌∷◌, length, get_or, set, get_or-set_same, get_or-set_other}
-use Rattle.std.proofs.Math.ListN.{length-set}
-use Rattle.std.proofs.Math.Nat.{zero-div, div-div-eq-div-mul}
-use Rattle.std.proofs.lemmas.List.{ext_get_or}
-use Rattle.std.proofs.lemmas.Grind.{common_steps}
-use Rattle.pac_num.specs.Numbers.{bit}
-use Rattle.pac_latch.specs.Latched.{Bits, Latched, latch_bits, latch_of_bits, latch_place, is_latch_bit_set, binary_digit, binary_number}
-use Rattle.pac_latch.specs.Latched.{byte_of_latch, bits_of, latched_after_bit}
+use Rattle.pac_latch.proofs.Common.{Bits, Bool, Latched, List, [], ap, arith, binary_digit, binary_number, bit, bits_of, byte_of_latch}
+use Rattle.pac_latch.proofs.Common.{common_steps, div-div-eq-div-mul, ext_get_or, false, get_or, get_or-set_other, get_or-set_same}
+use Rattle.pac_latch.proofs.Common.{is_latch_bit_set, latch_bits, latch_of_bits, latch_place, latched_after_bit, length, length-set, refl}
+use Rattle.pac_latch.proofs.Common.{set, suc, sym, true, zero, zero-div, ℕ, ◌%◌, ◌*◌, ◌+◌, ◌/◌, ◌<◌, ◌==◌, ◌^◌, ◌∙◌, ◌∷◌, ◌≡◌, ◌≢◌}
 
 -- eight bits, listed again, are those bits
 listed-at : (bits : List Bool) (place : ℕ) → place < 8 → get_or (latch_bits (latch_of_bits bits)) place false ≡ get_or bits place false

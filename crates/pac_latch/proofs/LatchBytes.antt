@@ -1,7 +1,5 @@
 -- The latch that has the bits of a byte is told by that byte.
-use Rattle.std.proofs.Common.{◌≡◌, ℕ, zero, suc, ◌<◌, ◌==◌, arith, refl}
-use Rattle.pac_num.specs.Numbers.{bit}
-use Rattle.pac_latch.specs.Latched.{binary_digit, byte_of_latch, bits_of}
+use Rattle.pac_latch.proofs.Common.{arith, binary_digit, bit, bits_of, byte_of_latch, refl, suc, zero, ℕ, ◌<◌, ◌==◌, ◌≡◌}
 
 -- a bit, tested and written again
 digit-test : (n : ℕ) → n < 2 → binary_digit (n == 1) ≡ n

@@ -1,9 +1,6 @@
 -- A decimal number read digit by digit, from the left.
-use Rattle.std.proofs.Common.{◌≡◌, ℕ, ◌+◌, ◌-◌, ◌*◌, ◌<◌, ◌≤◌, cond, ◌&&◌, List, [], ◌∷◌, Option, Some, None, fold, arith, le_trans}
-use Rattle.std.specs.Prelude.{nat_le}
-use Rattle.std.specs.List.{list_all}
-use Rattle.std.specs.Char.{is_ascii_digit}
-use Rattle.std.proofs.lemmas.Bool.{and_right, cond-false, lt-leb}
+use Rattle.pac_lemmas.proofs.Common.{List, None, Option, Some, [], and_right, arith, cond, cond-false, fold, is_ascii_digit, le_trans}
+use Rattle.pac_lemmas.proofs.Common.{list_all, lt-leb, nat_le, ℕ, ◌&&◌, ◌*◌, ◌+◌, ◌-◌, ◌<◌, ◌∷◌, ◌≡◌, ◌≤◌}
 
 -- the number whose first digits came to n, and whose other digits are these
 abbrev pub number_from : ℕ → List ℕ → ℕ

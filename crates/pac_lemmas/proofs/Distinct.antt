@@ -1,7 +1,6 @@
 -- Lists of which no two elements are the same.
-use Rattle.std.proofs.Common.{◌≡◌, Bool, true, false, not, ◌&&◌, List, [], ◌∷◌}
-use Rattle.std.specs.List.{list_all, AllByRecursion, IsDistinct}
-use Rattle.std.proofs.lemmas.Bool.{and_parts, not-true}
+use Rattle.pac_lemmas.proofs.Common.{AllByRecursion, Bool, IsDistinct, List, [], and_parts, false, list_all, not, not-true, true, ◌&&◌, ◌∷◌}
+use Rattle.pac_lemmas.proofs.Common.{◌≡◌}
 
 -- whether no element of a list is the same as one after it
 unfoldable pub is_distinct : {K : Type 0} → (K → K → Bool) → List K → Bool

@@ -1,8 +1,6 @@
 -- Words that are the same whatever the case of their letters.
-use Rattle.std.proofs.Common.{◌≡◌, ℕ, true, ◌==◌, List, [], ◌∷◌, slice_index, rules}
-use Rattle.std.specs.Char.{to_ascii_lowercase}
-use Rattle.std.specs.Str.{bytes_eq, str_to_ascii_lowercase}
-use Rattle.std.proofs.lemmas.Bool.{false≢true}
+use Rattle.pac_lemmas.proofs.Common.{List, [], bytes_eq, false≢true, rules, slice_index, str_to_ascii_lowercase, to_ascii_lowercase, true}
+use Rattle.pac_lemmas.proofs.Common.{ℕ, ◌==◌, ◌∷◌, ◌≡◌}
 
 -- they begin with the same letter
 pub same-first-letter : (b : ℕ) (rest letters : List ℕ) →

@@ -1,3 +1,4 @@
+pub mod Common
 pub mod Booleans
 pub mod Options
 pub mod Lists

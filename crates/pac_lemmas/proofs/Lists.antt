@@ -1,8 +1,7 @@
 -- The elements of a list after a change, and lists of one value.
-use Rattle.std.proofs.Common.{◌≡◌, ℕ, suc, ◌+◌, ◌-◌, ◌<◌, ◌≤◌, List, [], ◌∷◌, ◌++◌, rules}
-use Rattle.std.proofs.Common.{length, get_or, set, drop, replicate, slice_get, Some, refl, sym, ap, ◌∙◌, arith}
-use Rattle.std.proofs.lemmas.List.{get_or-take, get_or-drop, length-append, length-take-le, length-drop}
-use Rattle.std.proofs.lemmas.Slice.{take-put_mid_below, drop-put_mid, between-put_mid}
+use Rattle.pac_lemmas.proofs.Common.{List, Some, [], ap, arith, between-put_mid, drop, drop-put_mid, get_or, get_or-drop, get_or-take}
+use Rattle.pac_lemmas.proofs.Common.{length, length-append, length-drop, length-take-le, refl, replicate, rules, set, slice_get, suc, sym}
+use Rattle.pac_lemmas.proofs.Common.{take-put_mid_below, ℕ, ◌++◌, ◌+◌, ◌-◌, ◌<◌, ◌∙◌, ◌∷◌, ◌≡◌, ◌≤◌}
 use borrow.Rule.Slice.PartMut.{put_mid}
 
 -- a list that is filled place by place has its values at one place more

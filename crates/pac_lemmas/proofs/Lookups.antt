@@ -1,8 +1,6 @@
 -- What a list of pairs tells of a key.
-use Rattle.std.proofs.Common.{◌≡◌, Bool, true, List, [], ◌∷◌, Some, refl, sym, ap, ◌∙◌, inl, inr}
-use Rattle.std.specs.List.{filter}
-use Rattle.std.specs.Map.{lookup}
-use Rattle.std.proofs.lemmas.Bool.{cases_Bool, cond-true, cond-false, false≢true}
+use Rattle.pac_lemmas.proofs.Common.{Bool, List, Some, [], ap, cases_Bool, cond-false, cond-true, false≢true, filter, inl, inr, lookup}
+use Rattle.pac_lemmas.proofs.Common.{refl, sym, true, ◌∙◌, ◌∷◌, ◌≡◌}
 
 -- among the pairs that another test leaves are all that can be found
 pub lookup-filter : {K V : Type 0} (p : K → Bool) (q : K × V → Bool) (es : List (K × V)) → ((e : K × V) → p e.0 ≡ true → q e ≡ true) →

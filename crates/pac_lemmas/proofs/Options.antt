@@ -1,8 +1,6 @@
 -- What is in an `Option` or a `Result`.
-use Rattle.std.proofs.Common.{◌≡◌, ◌⊎◌, Bool, true, false, cond, Option, Some, None, Result, Ok, Err, is_some, is_none, is_ok, refl}
-use Rattle.std.proofs.Common.{ap, inl, inr, rules}
-use Rattle.std.specs.Option.{option_or}
-use Rattle.std.proofs.lemmas.Bool.{false≢true}
+use Rattle.pac_lemmas.proofs.Common.{Bool, Err, None, Ok, Option, Result, Some, ap, cond, false, false≢true, inl, inr, is_none, is_ok}
+use Rattle.pac_lemmas.proofs.Common.{is_some, option_or, refl, rules, true, ◌≡◌, ◌⊎◌}
 
 pub none-or-some : {X : Type 0} (o : Option X) → (o ≡ None) ⊎ ((x : X) × (o ≡ Some x))
 none-or-some None = inl refl

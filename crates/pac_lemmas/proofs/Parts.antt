@@ -1,7 +1,6 @@
 -- A list of bytes cut at those that pass a test.
-use Rattle.std.proofs.Common.{◌≡◌, ℕ, suc, ◌<◌, Bool, true, false, not, List, [], ◌∷◌, length, take, drop, refl, arith, one-add, inl, inr}
-use Rattle.std.specs.List.{prefix_len, slice_split}
-use Rattle.std.proofs.lemmas.Bool.{cases_Bool}
+use Rattle.pac_lemmas.proofs.Common.{Bool, List, [], arith, cases_Bool, drop, false, inl, inr, length, not, one-add, prefix_len, refl}
+use Rattle.pac_lemmas.proofs.Common.{slice_split, suc, take, true, ℕ, ◌<◌, ◌∷◌, ◌≡◌}
 
 -- how long the first part is
 abbrev pub part_end : (ℕ → Bool) → List ℕ → ℕ

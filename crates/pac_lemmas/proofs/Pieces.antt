@@ -1,9 +1,7 @@
 -- A list that is made piece by piece: the pieces before one, that one, and the others.
-use Rattle.std.proofs.Common.{◌≡◌, ℕ, ◌+◌, ◌<◌, List, [], ◌∷◌, ◌++◌, length, map, take, drop, get_or, Option, refl, sym, ap, ◌∙◌}
-use Rattle.std.specs.List.{flat_map, filter_map, cons_option}
-use Rattle.std.proofs.lemmas.List.{append-nil, append_assoc, take_more, take-append-drop, map-append, map_more}
-use Rattle.std.proofs.lemmas.List.Elements.{filter_map-append}
-use Rattle.std.proofs.lemmas.Grind.{flat_map-append}
+use Rattle.pac_lemmas.proofs.Common.{List, Option, [], ap, append-nil, append_assoc, cons_option, drop, filter_map, filter_map-append}
+use Rattle.pac_lemmas.proofs.Common.{flat_map, flat_map-append, get_or, length, map, map-append, map_more, refl, sym, take}
+use Rattle.pac_lemmas.proofs.Common.{take-append-drop, take_more, ℕ, ◌++◌, ◌+◌, ◌<◌, ◌∙◌, ◌∷◌, ◌≡◌}
 
 pub flat_map-one-more : {X Y : Type 0} (f : X → List Y) (xs : List X) (i : ℕ) (d : X) → i < length xs
     → flat_map f (take i xs) ++ f (get_or xs i d) ≡ flat_map f (take (i + 1) xs)

@@ -1,8 +1,6 @@
 -- The numbers from one to another, and the values of a function at them.
-use Rattle.std.proofs.Common.{◌≡◌, ℕ, zero, suc, ◌+◌, ◌-◌, ◌<◌, ◌≤◌, Bool, false, map, take, drop, sym, ap, ◌∙◌, ⊎_elim, arith, rules}
-use Rattle.std.specs.List.{range_with_len, list_any}
-use Rattle.std.proofs.lemmas.Bool.{cases_eq, or_parts}
-use Rattle.std.proofs.lemmas.List.FromFn.{take-map-range_with_len}
+use Rattle.pac_lemmas.proofs.Common.{Bool, ap, arith, cases_eq, drop, false, list_any, map, or_parts, range_with_len, rules, suc, sym, take}
+use Rattle.pac_lemmas.proofs.Common.{take-map-range_with_len, zero, ℕ, ⊎_elim, ◌+◌, ◌-◌, ◌<◌, ◌∙◌, ◌≡◌, ◌≤◌}
 
 pub drop-map-range : {X : Type 0} (f : ℕ → X) (at a n b m : ℕ) → at + m ≡ n → a + at ≡ b
     → drop at (map f (range_with_len a n)) ≡ map f (range_with_len b m)

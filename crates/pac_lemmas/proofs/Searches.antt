@@ -1,11 +1,10 @@
 -- Tests of all elements of a list, and the first that passes one.
-use Rattle.std.proofs.Common.{◌≡◌, ℕ, zero, suc, ◌+◌, ◌<◌, Bool, true, false, not, cond, if◌then◌else◌, ◌||◌, [], rules, List, ◌∷◌, length}
-use Rattle.std.proofs.Common.{map, get_or, take, Some, None, option_map, All, find, position, refl, sym, ap, ◌∙◌, inl, inr, one-add, arith}
+use Rattle.pac_lemmas.proofs.Common.{All, All-head, All-tail, Bool, List, None, Some, [], and_from, and_parts, ap, arith, cases_Bool}
+use Rattle.pac_lemmas.proofs.Common.{cases_lt, cond, cond-false, cond-true, fails_before_first, false, false≢true, filter, find, get_or}
+use Rattle.pac_lemmas.proofs.Common.{if◌then◌else◌, inl, inr, le-ltb, length, list_all, list_any, lt-ltb, map, not, one-add, option_map}
+use Rattle.pac_lemmas.proofs.Common.{passes_at_first, position, position_or_len, prefix_len, refl, rules, suc, sym, take, true, zero, ℕ}
+use Rattle.pac_lemmas.proofs.Common.{◌+◌, ◌<◌, ◌||◌, ◌∙◌, ◌∷◌, ◌≡◌}
 use Rattle.std.specs.Prelude.{is_some}
-use Rattle.std.specs.List.{list_all, list_any, filter, position_or_len, prefix_len}
-use Rattle.std.proofs.lemmas.Bool.{cases_Bool, cases_lt, and_parts, and_from, cond-true, cond-false, false≢true, lt-ltb, le-ltb}
-use Rattle.std.proofs.lemmas.List.Elements.{All-head, All-tail}
-use Rattle.std.proofs.lemmas.List.Sums.{fails_before_first, passes_at_first}
 
 -- ---- all and any
 

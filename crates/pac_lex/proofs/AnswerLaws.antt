@@ -1,11 +1,6 @@
 -- What the answer of a call says of its line.
-use Rattle.std.proofs.Common.{ℕ, List, Result, IfErr, IfOk, arith}
-use Rattle.std.specs.Prelude.{Vec}
-use Rattle.pac_lex.specs.declared.token.Token.{Token}
-use Rattle.pac_lex.specs.declared.fault.LexError.{LexError}
-use Rattle.pac_lex.specs.TokensProofs.{views}
-use Rattle.pac_lex.specs.Tokens.{IsRead, HasLexFault}
-use Rattle.pac_lex.specs.Scan.{LexingGives, OnLexFault, tokens_of}
+use Rattle.pac_lex.proofs.Common.{HasLexFault, IfErr, IfOk, IsRead, LexError, LexingGives, List, OnLexFault, Result, Token, Vec, arith}
+use Rattle.pac_lex.proofs.Common.{tokens_of, views, ℕ}
 use Rattle.pac_lex.proofs.LineLaws.{tokens-read, fault-told}
 
 pub is-read : {A : Type 0} (line : List ℕ) (answer : Result (Vec Token A) LexError)

@@ -1,16 +1,8 @@
 -- What the first byte of a token is, and what it isn't.
-use Rattle.std.proofs.Common.{rules, ◌≡◌, ℕ, Bool, true, false, eqb, cond, List, [], ◌∷◌, Some, refl, arith, inl, inr, ◌⊎◌, subst}
-use Rattle.std.specs.List.{list_all}
-use Rattle.std.specs.Map.{lookup}
-use Rattle.std.specs.Char.{is_ascii_digit}
-use Rattle.std.proofs.lemmas.Bool.{eqb-true, and_parts}
-use Rattle.std.proofs.lemmas.Bool.Decides.{nat_tests}
-use Rattle.std.proofs.lemmas.Option.{same_Some, none-some}
-use Rattle.pac_lex.specs.declared.token.TokenKind.{TokenKind}
-use Rattle.pac_lex.specs.declared.token.TokenKind.TheVariants.{Name, Number, Text, AlternateAf}
-use Rattle.pac_lex.specs.Bytes.{is_blank, is_comment_start, is_name_start}
-use Rattle.pac_lex.specs.Tokens.{one_byte_kind, one_byte_kinds, begins}
-use Rattle.pac_lex.specs.Scan.{is_end}
+use Rattle.pac_lex.proofs.Common.{AlternateAf, Bool, List, Name, Number, Some, Text, TokenKind, [], and_parts, arith, begins, cond, eqb}
+use Rattle.pac_lex.proofs.Common.{eqb-true, false, inl, inr, is_ascii_digit, is_blank, is_comment_start, is_end, is_name_start, list_all}
+use Rattle.pac_lex.proofs.Common.{lookup, nat_tests, none-some, one_byte_kind, one_byte_kinds, refl, rules, same_Some, subst, true, ℕ, ◌∷◌}
+use Rattle.pac_lex.proofs.Common.{◌≡◌, ◌⊎◌}
 
 pub chosen : {A : Type 0} (b : Bool) (x y z : A) → cond b x y ≡ z → ((b ≡ true) × (x ≡ z)) ⊎ ((b ≡ false) × (y ≡ z))
 chosen b x y z e = search rules

@@ -1,11 +1,8 @@
 -- The characters of a text, taken out of its quotes.
-use Rattle.std.proofs.Common.{rules, ◌≡◌, ℕ, ◌+◌, ◌-◌, false, List, [], ◌∷◌, ◌++◌, length, take, drop, flat_map, refl, sym, ap, ◌∙◌, arith}
-use Rattle.std.proofs.Common.{inl, inr, append_assoc, get_or, ◌≤◌, ◌<◌}
-use Rattle.std.proofs.lemmas.Bool.{cases_Bool, eqb-true}
-use Rattle.std.proofs.lemmas.List.{take_at, take_all, length-append, append-nil}
-use Rattle.pac_lex.specs.Bytes.{is_quote}
-use Rattle.pac_lex.specs.Texts.{quoted_character, quoted_text}
-use Rattle.pac_lex.specs.TextsProofs.{after_character, unquoted_characters, characters_of}
+use Rattle.pac_lex.proofs.Common.{List, [], after_character, ap, append_assoc, arith, cases_Bool, characters_of, drop, eqb-true, false}
+use Rattle.pac_lex.proofs.Common.{flat_map, get_or, inl, inr, is_quote, length, length-append, quoted_character, quoted_text, refl, rules}
+use Rattle.pac_lex.proofs.Common.{sym, take, take_all, take_at, unquoted_characters, ℕ, ◌++◌, ◌+◌, ◌-◌, ◌<◌, ◌∙◌, ◌∷◌, ◌≡◌, ◌≤◌}
+use Rattle.std.proofs.lemmas.List.{append-nil}
 
 pub unquoted-cons : (b : ℕ) (bytes : List ℕ) → unquoted_characters (b ∷ bytes) ≡ b ∷ unquoted_characters (after_character b bytes)
 unfolding unquoted_characters

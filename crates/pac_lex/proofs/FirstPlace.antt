@@ -1,10 +1,7 @@
 -- The first byte that passes a test, as a search tells it and by counting.
-use Rattle.std.proofs.Common.{◌≡◌, ℕ, Bool, List, length, arith}
+use Rattle.pac_lex.proofs.Common.{Bool, IsFirstByte, List, arith, cond-false, cond-true, false_from_ne_true, le-ltb, length, lt-ltb}
+use Rattle.pac_lex.proofs.Common.{position_or_len, position_or_len_is, ℕ, ◌≡◌}
 use Rattle.std.specs.Prelude.{Option, Some, None, position}
-use Rattle.std.specs.List.{position_or_len}
-use Rattle.std.proofs.lemmas.Bool.{cond-true, cond-false, lt-ltb, false_from_ne_true, le-ltb}
-use Rattle.std.proofs.lemmas.List.Sums.{position_or_len_is}
-use Rattle.memchr.specs.Find.{IsFirstByte}
 
 pub first-place : (test : ℕ → Bool) (bytes : List ℕ) (found : Option ℕ) → IsFirstByte test bytes found → found ≡ position test bytes
 first-place test bytes None is =

@@ -1,3 +1,4 @@
+pub mod Common
 pub mod LineLemmas
 pub mod NumberLemmas
 pub mod QuoteLemmas

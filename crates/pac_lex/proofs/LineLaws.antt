@@ -1,15 +1,9 @@
 -- A line is read as the tokens that it is made of, and refused at the fault that it has.
-use Rattle.std.proofs.Common.{◌≡◌, ℕ, zero, suc, ◌<◌, ◌≤◌, true, false, not, List, [], ◌∷◌, ◌++◌, length, drop, Ok, Err, rules, refl, sym}
-use Rattle.std.proofs.Common.{◌∙◌, subst, arith, inl, inr, ◌⊎◌}
-use Rattle.std.specs.List.{prefix_len}
-use Rattle.std.proofs.lemmas.Bool.{cases_Bool, cases_lt, lt-ltb, le-ltb}
-use Rattle.std.proofs.lemmas.List.{take-append-drop, take_at, drop_at, length-drop}
-use Rattle.pac_lex.specs.declared.token.TokenKind.{TokenKind}
-use Rattle.pac_lex.specs.declared.fault.LexFault.{LexFault}
-use Rattle.pac_lex.specs.declared.fault.LexFault.TheVariants.{NoToken, WrongNumber, OpenText, LongLine}
-use Rattle.pac_lex.specs.Bytes.{is_blank, is_comment_start, after_gap}
-use Rattle.pac_lex.specs.Tokens.{Lexeme, begins, TokenFirst, ReadsTokens, Breaks, IsRead, HasLexFault}
-use Rattle.pac_lex.specs.Scan.{FoundToken, is_end, token_before, cut_token, token_at, scan, tokens_of}
+use Rattle.pac_lex.proofs.Common.{Breaks, Err, FoundToken, HasLexFault, IsRead, LexFault, Lexeme, List, LongLine, NoToken, Ok, OpenText}
+use Rattle.pac_lex.proofs.Common.{ReadsTokens, TokenFirst, TokenKind, WrongNumber, [], after_gap, arith, begins, cases_Bool, cases_lt}
+use Rattle.pac_lex.proofs.Common.{cut_token, drop, drop_at, false, inl, inr, is_blank, is_comment_start, is_end, le-ltb, length}
+use Rattle.pac_lex.proofs.Common.{length-drop, lt-ltb, not, prefix_len, refl, rules, scan, subst, suc, sym, take-append-drop, take_at}
+use Rattle.pac_lex.proofs.Common.{token_at, token_before, tokens_of, true, zero, ℕ, ◌++◌, ◌<◌, ◌∙◌, ◌∷◌, ◌≡◌, ◌≤◌, ◌⊎◌}
 use Rattle.pac_lex.proofs.ScanLemmas.{AfterGap, gap-skipped, next-none, next-fault, next-some}
 use Rattle.pac_lex.proofs.TokenLaws.{IsFound, Tells, tells}
 use Rattle.pac_lex.proofs.TokensAgain.{token-again, fault-again}

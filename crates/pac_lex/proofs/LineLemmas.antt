@@ -1,13 +1,8 @@
 -- The first of the lines of a text.
-use Rattle.std.proofs.Common.{◌≡◌, ℕ, ◌<◌, Bool, eqb, ltb, List, [], ◌∷◌, length, take, drop, Some, None, refl, rules}
-use Rattle.std.proofs.Common.{ap, ◌∙◌, arith, position}
-use Rattle.std.specs.List.{slice_split, position_or_len, before_first, after_first}
-use Rattle.std.specs.Str.Lines.{lines, lines_of_parts, strip_carriage_return}
-use Rattle.std.proofs.lemmas.Bool.{ltb-true, lt-ltb, cases_lt, not-true, cond-true, cond-false, ne_eqb}
-use Rattle.std.proofs.lemmas.Option.{cond_some, none-some}
-use Rattle.std.proofs.lemmas.List.{drop-drop}
-use Rattle.std.proofs.lemmas.List.Sums.{prefix_len_passes}
-use Rattle.std.proofs.lemmas.List.Splits.{slice_split_none, slice_split_first, length-slice_split}
+use Rattle.pac_lex.proofs.Common.{Bool, List, None, Some, [], after_first, ap, arith, before_first, cases_lt, cond-false, cond-true}
+use Rattle.pac_lex.proofs.Common.{cond_some, drop, drop-drop, eqb, length, length-slice_split, lines, lines_of_parts, lt-ltb, ltb, ltb-true}
+use Rattle.pac_lex.proofs.Common.{ne_eqb, none-some, not-true, position, position_or_len, prefix_len_passes, refl, rules, slice_split}
+use Rattle.pac_lex.proofs.Common.{slice_split_first, slice_split_none, strip_carriage_return, take, ℕ, ◌<◌, ◌∙◌, ◌∷◌, ◌≡◌}
 
 abbrev is_feed : ℕ → Bool
 is_feed b = eqb b 10

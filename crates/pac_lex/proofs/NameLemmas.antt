@@ -1,9 +1,6 @@
 -- A token has a byte at least.
-use Rattle.std.proofs.Common.{◌≡◌, ℕ, ◌<◌, true, List, rules}
-use Rattle.std.specs.List.{prefix_len}
-use Rattle.std.specs.Char.{is_ascii_digit, is_ascii_alphanumeric}
-use Rattle.pac_lex.specs.Bytes.{is_name_start, is_name_byte}
-use Rattle.pac_lex.specs.Tokens.{begins}
+use Rattle.pac_lex.proofs.Common.{List, begins, is_ascii_alphanumeric, is_ascii_digit, is_name_byte, is_name_start, prefix_len, rules, true}
+use Rattle.pac_lex.proofs.Common.{ℕ, ◌<◌, ◌≡◌}
 
 pub name-has-bytes : (bytes : List ℕ) → begins is_name_start bytes ≡ true → 0 < prefix_len is_name_byte bytes
 name-has-bytes bytes e = search rules

@@ -1,9 +1,6 @@
 -- A number read digit by digit, from the left.
-use Rattle.std.proofs.Common.{◌≡◌, ℕ, ◌+◌, ◌*◌, ◌<◌, ◌≤◌, cond, ltb, ◌&&◌, List, [], ◌∷◌, Option, Some, None, fold, arith}
-use Rattle.std.proofs.Common.{le_trans, mul-le-mul_left}
-use Rattle.std.specs.List.{list_all}
-use Rattle.std.proofs.lemmas.Bool.{le-ltb, and_right, cond-false}
-use Rattle.pac_lex.specs.Numbers.{value_of_digit}
+use Rattle.pac_lex.proofs.Common.{List, None, Option, Some, [], and_right, arith, cond, cond-false, fold, le-ltb, le_trans, list_all, ltb}
+use Rattle.pac_lex.proofs.Common.{mul-le-mul_left, value_of_digit, ℕ, ◌&&◌, ◌*◌, ◌+◌, ◌<◌, ◌∷◌, ◌≡◌, ◌≤◌}
 
 -- the number whose first digits came to n, and whose other digits are these
 abbrev pub with_digits : ℕ → ℕ → List ℕ → Option ℕ

@@ -1,9 +1,6 @@
 -- The longest prefix of a list whose bytes pass a test.
-use Rattle.std.proofs.Common.{◌≡◌, ℕ, suc, ◌<◌, Bool, true, false, List, [], ◌∷◌, ◌++◌, length, take, drop, refl, ap, inl, inr}
-use Rattle.std.proofs.Common.{one-add, rules}
-use Rattle.std.specs.List.{prefix_len, list_all}
-use Rattle.std.proofs.lemmas.Bool.{cases_Bool, and_parts}
-use Rattle.pac_lex.specs.Tokens.{begins}
+use Rattle.pac_lex.proofs.Common.{Bool, List, [], and_parts, ap, begins, cases_Bool, drop, false, inl, inr, length, list_all, one-add}
+use Rattle.pac_lex.proofs.Common.{prefix_len, refl, rules, suc, take, true, ℕ, ◌++◌, ◌<◌, ◌∷◌, ◌≡◌}
 
 pub prefix-of-all : (p : ℕ → Bool) (xs ys : List ℕ) → list_all p xs ≡ true → begins p ys ≡ false → prefix_len p (xs ++ ys) ≡ length xs
 prefix-of-all p [] [] all stop = refl

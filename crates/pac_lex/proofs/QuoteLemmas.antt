@@ -1,12 +1,6 @@
 -- Where a text ends.
-use Rattle.std.proofs.lemmas.Grind.{common_steps}
-use Rattle.std.proofs.Common.{◌≡◌, ℕ, ◌+◌, ◌<◌, ◌≢◌, true, false, List, ◌∷◌, drop, get_or, length, Option, Some, rules, option_map, refl}
-use Rattle.std.proofs.Common.{arith}
-use Rattle.std.proofs.lemmas.Bool.{ne_eqb, eq-eqb}
-use Rattle.std.proofs.lemmas.List.{drop_more, at_drop_more}
-use Rattle.pac_lex.specs.Bytes.{is_quote}
-use Rattle.pac_lex.specs.TextsProofs.{closing_length}
-use Rattle.pac_lex.specs.Tokens.{begins}
+use Rattle.pac_lex.proofs.Common.{List, Option, Some, arith, at_drop_more, begins, closing_length, common_steps, drop, drop_more, eq-eqb}
+use Rattle.pac_lex.proofs.Common.{false, get_or, is_quote, length, ne_eqb, option_map, refl, rules, true, ℕ, ◌+◌, ◌<◌, ◌∷◌, ◌≡◌, ◌≢◌}
 
 abbrev pub more : ℕ → Option ℕ → Option ℕ
 more n o = option_map (λ k. k + n) o

@@ -1,8 +1,6 @@
 -- One answer is right for each line, and a text has the characters with which it is written.
-use Rattle.std.proofs.Common.{rules, arith, ◌≡◌, ℕ, List, [], ◌∷◌, Some}
-use Rattle.pac_lex.specs.Texts.{quoted_text}
-use Rattle.pac_lex.specs.TextsProofs.{one_character}
-use Rattle.pac_lex.specs.OneReading.{EachLineHasOneReading, TextsHaveTheirCharacters}
+use Rattle.pac_lex.proofs.Common.{EachLineHasOneReading, List, Some, TextsHaveTheirCharacters, [], arith, one_character, quoted_text, rules}
+use Rattle.pac_lex.proofs.Common.{ℕ, ◌∷◌, ◌≡◌}
 use Rattle.pac_lex.proofs.CharacterLemmas.{characters-again}
 use Rattle.pac_lex.proofs.LineLaws.{tokens-read, read-again, fault-told, fault-found}
 

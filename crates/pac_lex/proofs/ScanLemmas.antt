@@ -1,13 +1,7 @@
 -- A line read token by token.
-use Rattle.std.proofs.lemmas.Grind.{common_steps}
-use Rattle.std.proofs.Common.{◌≡◌, ℕ, zero, suc, ◌<◌, true, false, List, [], ◌∷◌, ◌++◌, drop, Result, Ok, Err, refl, sym, ap, ◌∙◌}
-use Rattle.std.proofs.Common.{arith, one-add, append-nil, inl, inr}
-use Rattle.std.proofs.lemmas.Bool.{cases_Bool}
-use Rattle.pac_lex.specs.declared.token.TokenKind.{TokenKind}
-use Rattle.pac_lex.specs.declared.fault.LexFault.{LexFault}
-use Rattle.pac_lex.specs.Bytes.{is_blank, is_comment_start, after_gap}
-use Rattle.pac_lex.specs.Tokens.{Lexeme, begins}
-use Rattle.pac_lex.specs.Scan.{is_end, token_before, cut_token, token_at, scan}
+use Rattle.pac_lex.proofs.Common.{Err, LexFault, Lexeme, List, Ok, Result, TokenKind, [], after_gap, ap, append-nil, arith, begins}
+use Rattle.pac_lex.proofs.Common.{cases_Bool, common_steps, cut_token, drop, false, inl, inr, is_blank, is_comment_start, is_end, one-add}
+use Rattle.pac_lex.proofs.Common.{refl, scan, suc, sym, token_at, token_before, true, zero, ℕ, ◌++◌, ◌<◌, ◌∙◌, ◌∷◌, ◌≡◌}
 use Rattle.pac_lex.proofs.Prefixes.{begins-after}
 
 pub scan-skip : (n : ℕ) (bytes : List ℕ) → scan n bytes ≡ scan 0 (drop n bytes)

@@ -1,13 +1,7 @@
 -- A text ends where its characters, each quote doubled, end in one quote.
-use Rattle.std.proofs.Common.{rules, ◌≡◌, ℕ, suc, ◌+◌, true, false, cond, List, [], ◌∷◌, ◌++◌, length, take, drop, Option, Some, refl}
-use Rattle.std.proofs.Common.{arith, inl, inr, subst, flat_map}
-use Rattle.std.specs.List.{list_all}
-use Rattle.std.proofs.lemmas.Bool.{cases_Bool, eqb-true}
-use Rattle.std.proofs.lemmas.Option.{same_Some, none-some}
-use Rattle.pac_lex.specs.Bytes.{is_quote, is_printable}
-use Rattle.pac_lex.specs.Texts.{quoted_character}
-use Rattle.pac_lex.specs.TextsProofs.{closing_length}
-use Rattle.pac_lex.specs.Tokens.{begins}
+use Rattle.pac_lex.proofs.Common.{List, Option, Some, [], arith, begins, cases_Bool, closing_length, cond, drop, eqb-true, false, flat_map}
+use Rattle.pac_lex.proofs.Common.{inl, inr, is_printable, is_quote, length, list_all, none-some, quoted_character, refl, rules, same_Some}
+use Rattle.pac_lex.proofs.Common.{subst, suc, take, true, ℕ, ◌++◌, ◌+◌, ◌∷◌, ◌≡◌}
 use Rattle.pac_lex.proofs.ByteLemmas.{chosen}
 use Rattle.pac_lex.proofs.QuoteLemmas.{more, closing-other, closing-doubled, closing-single}
 

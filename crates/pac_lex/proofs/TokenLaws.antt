@@ -1,21 +1,11 @@
 -- What is found where the bytes begin is a token or a fault there.
-use Rattle.std.proofs.lemmas.Grind.{common_steps}
-use Rattle.std.proofs.Common.{rules, ◌≡◌, ℕ, zero, suc, ◌<◌, true, false, ◌&&◌, List, [], ◌∷◌, ◌++◌, take, drop, Option, Some, None, Ok}
-use Rattle.std.proofs.Common.{Err, refl, sym, ap, ◌∙◌, arith, inl, inr, add-one, flat_map}
-use Rattle.std.specs.List.{prefix_len, list_all}
-use Rattle.std.specs.Char.{is_ascii_digit, is_ascii_alphanumeric}
-use Rattle.std.proofs.lemmas.Bool.{cases_Bool, eqb-true, and_parts, true≢false}
-use Rattle.std.proofs.lemmas.Option.{none-some}
-use Rattle.std.proofs.lemmas.List.{take-append-drop}
-use Rattle.pac_lemmas.proofs.Searches.{list_all-prefix}
-use Rattle.pac_lex.specs.declared.token.TokenKind.{TokenKind}
-use Rattle.pac_lex.specs.Bytes.{is_quote, is_name_start, is_name_byte, is_printable}
-use Rattle.pac_lex.specs.Numbers.{numeral}
-use Rattle.pac_lex.specs.Texts.{quoted_character, quoted_text}
-use Rattle.pac_lex.specs.TextsProofs.{closing_length}
-use Rattle.pac_lex.specs.Tokens.{one_byte_kind, is_af, begins, IsToken, IsTokenFault}
-use Rattle.pac_lex.specs.Scan.{FoundToken, name_token_at, number_token_at, text_token_at, quoted_token, one_byte_token, numeral_token}
-use Rattle.pac_lex.specs.Scan.{token_at}
+use Rattle.pac_lex.proofs.Common.{Err, FoundToken, IsToken, IsTokenFault, List, None, Ok, Option, Some, TokenKind, [], add-one, and_parts}
+use Rattle.pac_lex.proofs.Common.{ap, arith, begins, cases_Bool, closing_length, common_steps, drop, eqb-true, false, flat_map, inl, inr}
+use Rattle.pac_lex.proofs.Common.{is_af, is_ascii_alphanumeric, is_ascii_digit, is_name_byte, is_name_start, is_printable, is_quote}
+use Rattle.pac_lex.proofs.Common.{list_all, list_all-prefix, name_token_at, none-some, number_token_at, numeral, numeral_token}
+use Rattle.pac_lex.proofs.Common.{one_byte_kind, one_byte_token, prefix_len, quoted_character, quoted_text, quoted_token, refl, rules, suc}
+use Rattle.pac_lex.proofs.Common.{sym, take, take-append-drop, text_token_at, token_at, true, true≢false, zero, ℕ, ◌&&◌, ◌++◌, ◌<◌, ◌∙◌}
+use Rattle.pac_lex.proofs.Common.{◌∷◌, ◌≡◌}
 use Rattle.pac_lex.proofs.Prefixes.{begins-after, begins-take}
 use Rattle.pac_lex.proofs.ByteLemmas.{Starts, is_mark, symbol-is-mark}
 use Rattle.pac_lex.proofs.NameLemmas.{name-has-bytes, number-has-bytes}

@@ -1,21 +1,11 @@
 -- What is a token or a fault where the bytes begin is found there.
-use Rattle.std.proofs.Common.{rules, ◌≡◌, ℕ, ◌+◌, ◌<◌, Bool, true, false, eqb, ◌||◌, ◌&&◌, List, [], ◌∷◌, ◌++◌, length, drop, Some, None}
-use Rattle.std.proofs.Common.{Ok, Err, refl, ap, ◌∙◌, arith, inl, inr, add-one, flat_map, append_assoc, cond}
-use Rattle.std.specs.List.{list_all}
-use Rattle.std.specs.Char.{is_ascii_digit, is_ascii_alphanumeric}
-use Rattle.std.proofs.lemmas.Bool.{cond-true, cond-false, eqb-true, and_parts}
-use Rattle.std.proofs.lemmas.List.{take_at, drop_at, length-append}
-use Rattle.pac_lemmas.proofs.Options.{none-or-some}
-use Rattle.pac_lex.specs.declared.token.TokenKind.{TokenKind}
-use Rattle.pac_lex.specs.declared.token.TokenKind.TheVariants.{Name, Number, Text, AlternateAf}
-use Rattle.pac_lex.specs.declared.fault.LexFault.{LexFault}
-use Rattle.pac_lex.specs.declared.fault.LexFault.TheVariants.{NoToken, WrongNumber, OpenText, LongLine}
-use Rattle.pac_lex.specs.Bytes.{is_quote, is_name_byte, is_printable}
-use Rattle.pac_lex.specs.Numbers.{numeral}
-use Rattle.pac_lex.specs.Texts.{quoted_character, quoted_text}
-use Rattle.pac_lex.specs.TextsProofs.{closing_length}
-use Rattle.pac_lex.specs.Tokens.{one_byte_kind, is_af, begins, begins_nothing, IsToken, IsTokenFault}
-use Rattle.pac_lex.specs.Scan.{name_token_at, number_token_at, text_token_at, numeral_token, token_at}
+use Rattle.pac_lex.proofs.Common.{AlternateAf, Bool, Err, IsToken, IsTokenFault, LexFault, List, LongLine, Name, NoToken, None, Number, Ok}
+use Rattle.pac_lex.proofs.Common.{OpenText, Some, Text, TokenKind, WrongNumber, [], add-one, and_parts, ap, append_assoc, arith, begins}
+use Rattle.pac_lex.proofs.Common.{begins_nothing, closing_length, cond, cond-false, cond-true, drop, drop_at, eqb, eqb-true, false}
+use Rattle.pac_lex.proofs.Common.{flat_map, inl, inr, is_af, is_ascii_alphanumeric, is_ascii_digit, is_name_byte, is_printable, is_quote}
+use Rattle.pac_lex.proofs.Common.{length, length-append, list_all, name_token_at, none-or-some, number_token_at, numeral, numeral_token}
+use Rattle.pac_lex.proofs.Common.{one_byte_kind, quoted_character, quoted_text, refl, rules, take_at, text_token_at, token_at, true, ℕ}
+use Rattle.pac_lex.proofs.Common.{◌&&◌, ◌++◌, ◌+◌, ◌<◌, ◌||◌, ◌∙◌, ◌∷◌, ◌≡◌}
 use Rattle.pac_lex.proofs.TokenLaws.{closed-text}
 use Rattle.pac_lex.proofs.Prefixes.{prefix-of-all}
 use Rattle.pac_lex.proofs.ByteLemmas.{Starts, digit-no-start, digit-no-blank, digit-no-comment, start-no-blank, start-no-comment}

@@ -1,12 +1,7 @@
 -- The first word of a line, and the words after it.
-use Rattle.std.proofs.Common.{◌≡◌, ℕ, ◌<◌, true, false, List, [], ◌∷◌, length, take, drop, refl, sym, ap, ◌∙◌, arith, one-add, suc, inl}
-use Rattle.std.proofs.Common.{inr, subst, rules}
-use Rattle.std.specs.List.{prefix_len, filter}
-use Rattle.std.proofs.lemmas.Bool.{cases_Bool}
-use Rattle.pac_lemmas.proofs.Parts.{part_end, parts_after, first-part, part-more, part-stops}
-use Rattle.pac_lex.specs.Bytes.{is_blank, after_gap}
-use Rattle.pac_lex.specs.Tokens.{begins}
-use Rattle.pac_lex.specs.Words.{words_of_line}
+use Rattle.pac_lex.proofs.Common.{List, [], after_gap, ap, arith, begins, cases_Bool, drop, false, filter, first-part, inl, inr, is_blank}
+use Rattle.pac_lex.proofs.Common.{length, one-add, part-more, part-stops, part_end, parts_after, prefix_len, refl, rules, subst, suc, sym}
+use Rattle.pac_lex.proofs.Common.{take, true, words_of_line, ℕ, ◌<◌, ◌∙◌, ◌∷◌, ◌≡◌}
 
 -- a list's prefix of blanks, one byte further on
 gap-more : (b : ℕ) (line : List ℕ) → is_blank b ≡ true → prefix_len is_blank (b ∷ line) ≡ suc (prefix_len is_blank line)

@@ -1,2 +1,3 @@
+pub mod Common
 mod RowLemmas
 pub mod Places

@@ -1,15 +1,8 @@
 -- Rows, lines and symbols one after another.
-use Rattle.std.proofs.lemmas.Grind.{common_steps}
-use Rattle.std.proofs.Common.{◌≡◌, ℕ, ◌+◌, ◌<◌, List, [], ◌∷◌, ◌++◌, length, drop, refl, sym, ℤ, Some, slice_get, arith, rules}
-use Rattle.std.proofs.lemmas.List.{drop_more}
-use Rattle.std.proofs.lemmas.Option.{get_or_from_slice_get, slice_get_within}
-use Rattle.std.specs.List.{flat_map}
-use Rattle.pac_asm_program.specs.Names.{Symbol}
-use Rattle.pac_asm_program.specs.declared.line.Line.{Line}
-use Rattle.pac_num.specs.Columns.{row_bytes, byte_columns}
-use Rattle.pac_num.specs.Hexadecimal.{hex_word}
-use Rattle.pac_listing.specs.Listing.{first_row, item_rows, further_row, further_rows, next_row_address, all_rows}
-use Rattle.pac_listing.specs.Listing.{line_rows, lines_from, symbol_row}
+use Rattle.pac_listing.proofs.Common.{Line, List, Some, Symbol, [], all_rows, arith, byte_columns, common_steps, drop, drop_more, first_row}
+use Rattle.pac_listing.proofs.Common.{flat_map, further_row, further_rows, get_or_from_slice_get, hex_word, item_rows, length, line_rows}
+use Rattle.pac_listing.proofs.Common.{lines_from, next_row_address, refl, row_bytes, rules, slice_get, slice_get_within, sym, symbol_row, ℕ}
+use Rattle.pac_listing.proofs.Common.{ℤ, ◌++◌, ◌+◌, ◌<◌, ◌∷◌, ◌≡◌}
 
 -- bytes that are left fill one row, and the bytes after it further ones
 pub rows-more : (at : ℕ) (bytes : List ℕ) → 0 < length bytes

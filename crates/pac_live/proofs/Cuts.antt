@@ -1,32 +1,18 @@
 -- Time on a live board that is cut anyhow is the time of one call.
-use Rattle.std.proofs.Common.{◌≡◌, ◌≤◌, ◌<◌, ℕ, ℤ, ◌+◌, List, [], ◌∷◌, ◌++◌, take, drop, refl, sym, ap, subst, ◌∙◌, append_assoc, arith}
-use Rattle.pac_board_model.proofs.Walks.{goes-on, joined, on-the-way, step-timely}
-use Rattle.pac_board.proofs.Parts.{steps-are-parts}
-use Rattle.pac_board.proofs.Pieces.{two-parts}
-use Rattle.pac_board.proofs.Walked.{walked-after}
+use Rattle.pac_live.proofs.Common.{AnyCutsAreOneTime, BoardValue, Due, GiveInTime, Giving, GoUntil, HasGoneFor, HasRunOn, HasStepped}
+use Rattle.pac_live.proofs.Common.{IsOnTheWay, List, MakeStep, PacRan, PacUntil, PassTime, TimeCall, TimeCanBeCut, TookAll, [], ap}
+use Rattle.pac_live.proofs.Common.{append_assoc, arith, asked_by, board_after_exec, board_after_step, by, course, drop, due_outputs}
+use Rattle.pac_live.proofs.Common.{goes-on, head-is, joined, left-in-parts, next_of, nothing_due, on-the-way, once_of_board, outputs_given}
+use Rattle.pac_live.proofs.Common.{outputs_of_one, refl, samples-append, samples_given, sound_count, state_left, step-timely}
+use Rattle.pac_live.proofs.Common.{steps-are-parts, subst, sym, take, time_of, told-samples, two-parts, walk_to, walked-after, with_due, ℕ}
+use Rattle.pac_live.proofs.Common.{ℤ, ◌++◌, ◌+◌, ◌<◌, ◌∙◌, ◌∷◌, ◌≡◌, ◌≤◌}
 use Rattle.pac_board.specs.BoardView.{BoardView}
-use Rattle.pac_board.specs.Due.{Due}
-use Rattle.pac_board.specs.Calls.{board_after_step, board_after_walk, course, next_of, outputs_given, way_at, with_due}
-use Rattle.pac_board.specs.CallsLaws.{once_of_board}
-use Rattle.pac_board.specs.Laws.{IsOnTheWay, TimeCanBeCut}
-use Rattle.pac_board.specs.Output.{Output, sound_count}
-use Rattle.pac_board.specs.Sinks.{TookAll}
-use Rattle.pac_board.specs.SinksLaws.{Giving, by}
-use Rattle.pac_board.specs.State.{BoardValue, due_outputs, nothing_due, time_of}
+use Rattle.pac_board.specs.Calls.{board_after_walk, way_at}
+use Rattle.pac_board.specs.Output.{Output}
 use Rattle.pac_board.specs.Step.{Next, Goes, Ends, step}
 use Rattle.pac_board.specs.Trace.{by_view}
-use Rattle.pac_board.specs.Walk.{Walk, walk_to}
-use Rattle.pac_live.specs.declared.live_until.PacUntil.{PacUntil}
-use Rattle.pac_block.specs.declared.ran.PacRan.{PacRan}
-use Rattle.pac_live.specs.CutLaws.{TimeCall, GoUntil, MakeStep, PassTime, asked_by, GiveInTime, AnyCutsAreOneTime}
-use Rattle.pac_block.specs.Host.{board_after_exec, samples_given, state_left}
-use Rattle.pac_live.specs.LiveStep.{HasStepped, outputs_of_one}
-use Rattle.pac_live.specs.LiveTime.{HasRunOn}
-use Rattle.pac_live.specs.LiveUntil.{HasGoneFor}
+use Rattle.pac_board.specs.Walk.{Walk}
 use Rattle.pac_live.proofs.UntilGiven.{IsAlong, along}
-use Rattle.pac_block.proofs.Sounding.{samples-append}
-use Rattle.pac_block.proofs.Stops.{left-in-parts}
-use Rattle.pac_block.proofs.TimeParts.{head-is, told-samples}
 
 -- ---- on the way of a run
 

@@ -1,3 +1,4 @@
+pub mod Common
 pub mod Walks
 pub mod LiveHandle
 pub mod LiveMade

@@ -1,11 +1,6 @@
 -- The calls of a live board are those of the one board.
-use Rattle.std.proofs.Common.{Ok, refl, sym, ap, ◌∙◌, inl, inr}
-use Rattle.pac_board.specs.State.{BoardValue, power_on_board}
-use Rattle.pac_state.specs.Files.{board_of_file}
-use Rattle.pac_live.specs.declared.live.PacLive.{PacLive}
-use Rattle.pac_block.specs.HostLaws.{PowerOn, ResetNow, HoldInputs, LetTimePass, TakeFile}
-use Rattle.pac_live.specs.Live.{BoardCall, IsMadeOn, Lives}
-use Rattle.pac_live.specs.LiveLaws.{LiveCallsAreOfOneBoard}
+use Rattle.pac_live.proofs.Common.{BoardCall, BoardValue, HoldInputs, IsMadeOn, LetTimePass, LiveCallsAreOfOneBoard, Lives, Ok, PacLive}
+use Rattle.pac_live.proofs.Common.{PowerOn, ResetNow, TakeFile, ap, board_of_file, inl, inr, power_on_board, refl, sym, ◌∙◌}
 
 -- a call that was done was made on an open handle's board
 made-of : (stays : Type 0) (call : BoardCall) (old new : PacLive) → Lives stays call (Ok tt) old new → IsMadeOn call (Ok tt) old new

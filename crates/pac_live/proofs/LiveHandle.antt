@@ -1,5 +1,5 @@
 -- The words of a live board's handle: what is owned tells them, and is made of nothing; and a handle behind a `&mut`, opened and closed.
-use Rattle.std.proofs.Common.{◌≡◌, ℕ, ◌^◌, ◌<◌, List, [], ◌∷◌, ◌++◌, refl, ◌∙◌, w64}
+use Rattle.pac_live.proofs.Common.{List, PacLive, [], live_owns, refl, w64, ℕ, ◌++◌, ◌<◌, ◌^◌, ◌∙◌, ◌∷◌, ◌≡◌}
 use seplogic.Ra.Ura.{Ura}
 use base.Fraction.{full_share}
 use base.Stored.{Gv}
@@ -19,9 +19,7 @@ use denote.RawPtr.{Ptr, RawPtr, ptr_val}
 use denote.Shadow.{shadow, makes_shadow}
 use denote.Steps.{opens, closes, peeks}
 use denote.Struct.Struct.{Struct}
-use Rattle.pac_live.specs.declared.live.PacLive.{PacLive}
 use Rattle.pac_live.specs.contracts.live.PacLive.{the_row as R}
-use Rattle.pac_live.specs.LiveMemory.{live_owns}
 
 -- a struct of these words: what it owns doesn't read its name
 abbrev words : RattleType

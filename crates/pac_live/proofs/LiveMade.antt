@@ -1,11 +1,6 @@
 -- A call on the board of an open handle.
-use Rattle.std.proofs.Common.{◌≡◌, Result, ap, subst, ◌∙◌, inl}
-use Rattle.pac_board.specs.State.{BoardValue}
-use Rattle.pac_block.specs.declared.codes.HostFault.{HostFault}
-use Rattle.pac_live.specs.declared.live.PacLive.{PacLive}
-use Rattle.pac_live.specs.Handle.{live_with_board}
-use Rattle.pac_live.specs.Live.{BoardCall, Lives}
-use Rattle.pac_live.specs.LiveMemory.{live_seal}
+use Rattle.pac_live.proofs.Common.{BoardCall, BoardValue, HostFault, Lives, PacLive, Result, ap, inl, live_seal, live_with_board, subst}
+use Rattle.pac_live.proofs.Common.{◌∙◌, ◌≡◌}
 
 -- the handle was looked at, its board was lent, and the call was made on that
 pub made-on : (stays : Type 0) (call : BoardCall) (answer : Result (Unit {0}) HostFault) (old between : PacLive) (board after : BoardValue)

@@ -1,11 +1,6 @@
 -- A call for some time on a board: why it isn't done.
-use Rattle.std.proofs.Common.{◌≡◌, ◌≤◌, ◌<◌, ◌+◌, ◌-◌, ◌^◌, min, ℕ, ℤ, List, length, Err, subst}
-use Rattle.pac_board.specs.State.{BoardState, BoardValue, most_asked}
-use Rattle.pac_block.specs.declared.codes.HostFault.{HostFault}
-use Rattle.pac_block.specs.declared.codes.HostFault.TheVariants.{WrongLength, NoBoard, TooLong, NoRoom, NoFile, Closed}
-use Rattle.pac_block.specs.Handed.{MayRun}
-use Rattle.pac_block.specs.Host.{most_samples}
-use Rattle.pac_live.specs.LiveTime.{RunFails}
+use Rattle.pac_live.proofs.Common.{BoardState, BoardValue, Closed, Err, HostFault, List, MayRun, NoBoard, NoFile, NoRoom, RunFails, TooLong}
+use Rattle.pac_live.proofs.Common.{WrongLength, length, min, most_asked, most_samples, subst, ℕ, ℤ, ◌+◌, ◌-◌, ◌<◌, ◌^◌, ◌≡◌, ◌≤◌}
 
 pub run-fails : (fault : HostFault) (board : BoardValue) (microseconds : ℕ) (samples : List ℤ) (state : BoardState) → state ≡ board.state
     → MayRun state microseconds (length samples) (Err fault) → RunFails board microseconds samples fault

@@ -1,25 +1,11 @@
 -- One step of a board: how many samples and pictures it gives, and that none is refused where there is room for two.
-use Rattle.std.proofs.Common.{◌≡◌, ◌≤◌, ◌<◌, ℕ, suc, zero, ◌+◌, length, Option, None, Some, ℤ, Err, ◌⊎◌, inl, inr}
-use Rattle.std.proofs.Common.{refl, sym, ap, ◌∙◌, arith}
-use Rattle.pac_board_model.specs.BoardView.{BoardView}
-use Rattle.pac_board_model.specs.Output.{image_of, sound_count, picture_count}
-use Rattle.pac_board_model.specs.Step.{Moment, Next, Goes, Ends, step}
-use Rattle.pac_board_model.specs.Trace.{by_view}
-use Rattle.pac_board_model.specs.Walk.{walk, walk_at_start, walk_after_step}
-use Rattle.pac_board_model.proofs.Walks.{going-steps, open-goes-on}
-use Rattle.pac_board_model.proofs.WalkTimes.{walks-are-timed}
-use Rattle.pac_board.specs.CallsLaws.{IsOfferRefused, IsStepRefused, once_at}
-use Rattle.pac_board.specs.CallsProofs.{StepsOn, stop_of_once}
-use Rattle.pac_board.specs.Calls.{next_of, outputs_in}
-use Rattle.pac_board.specs.declared.fault.Fault.{Fault}
-use Rattle.pac_board.specs.declared.fault.Fault.TheVariants.{TooFar, Refused}
-use Rattle.pac_board.specs.SinksLaws.{by}
-use Rattle.pac_board.specs.State.{BoardValue, due_outputs, latest}
-use Rattle.pac_block.specs.Host.{samples_due}
-use Rattle.pac_live.specs.LiveStep.{outputs_of_one, stop_of_next}
-use Rattle.pac_block.specs.Sounding.{sounding_took, sounding_refused}
-use Rattle.pac_block.specs.declared.sounds.Sounds.{Sounds}
-use Rattle.pac_block.proofs.Sounding.{due-pictures, due-sounds, none-refused, pictures-append, sounds-append}
+use Rattle.pac_live.proofs.Common.{BoardValue, BoardView, Ends, Err, Fault, Goes, IsOfferRefused, IsStepRefused, Moment, Next, None, Option}
+use Rattle.pac_live.proofs.Common.{Refused, Some, Sounds, StepsOn, TooFar, ap, arith, by, by_view, due-pictures, due-sounds, due_outputs}
+use Rattle.pac_live.proofs.Common.{going-steps, image_of, inl, inr, latest, length, next_of, none-refused, once_at, open-goes-on}
+use Rattle.pac_live.proofs.Common.{outputs_in, outputs_of_one, pictures-append, refl, samples_due, sounding_refused, sounding_took}
+use Rattle.pac_live.proofs.Common.{sounds-append, step, stop_of_next, stop_of_once, suc, sym, walk, walk_after_step, walk_at_start}
+use Rattle.pac_live.proofs.Common.{walks-are-timed, zero, ℕ, ℤ, ◌+◌, ◌<◌, ◌∙◌, ◌≡◌, ◌≤◌, ◌⊎◌}
+use Rattle.pac_board_model.specs.Output.{sound_count, picture_count}
 
 -- a step's outputs are those of the walk of one step
 outputs-walked : (now : Moment BoardView) (next : Next BoardView) → outputs_in next ≡ (walk_after_step (walk_at_start now) next).outputs

@@ -1,17 +1,7 @@
 -- The board of a file's state, which counts its steps on.
-use Rattle.std.proofs.Common.{◌≡◌, ◌<◌, ◌==◌, ℕ, Bool, true, false, if◌then◌else◌, List, get_or, Ok, Err, refl, ap, ◌∙◌}
-use Rattle.pac_board.specs.BoardFields.{Fields}
-use Rattle.pac_board.specs.Fields.{state_of}
-use Rattle.pac_board.specs.RomParts.{Parts}
-use Rattle.pac_board.specs.State.{BoardState, BoardValue, passed_lines, recomposed_view, with_view}
-use Rattle.pac_state.specs.declared.fault.LoadFault.{LoadFault}
-use Rattle.pac_state.specs.Reading.{state_in}
-use Rattle.pac_state.specs.Saved.{upgraded_board, version_in}
-use Rattle.pac_state.specs.SavedLaws.{loaded_board}
-use Rattle.pac_state.specs.SavedProofs.{FindsFields}
-use Rattle.pac_state.proofs.Files.{accepts}
-use Rattle.pac_block.specs.declared.codes.HostFault.TheVariants.{NoFile}
-use Rattle.pac_live.specs.LiveFiles.{HasTakenFile, Loading}
+use Rattle.pac_live.proofs.Common.{BoardState, BoardValue, Bool, Err, Fields, FindsFields, HasTakenFile, List, LoadFault, Loading, NoFile}
+use Rattle.pac_live.proofs.Common.{Ok, Parts, accepts, ap, false, get_or, if◌then◌else◌, loaded_board, passed_lines, recomposed_view, refl}
+use Rattle.pac_live.proofs.Common.{state_in, state_of, true, upgraded_board, version_in, with_view, ℕ, ◌<◌, ◌==◌, ◌∙◌, ◌≡◌}
 
 abbrev board_with : Parts → BoardState → ℕ → BoardValue
 board_with set state made = record { set = set; state = state; made = made }

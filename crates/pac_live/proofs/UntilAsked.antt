@@ -1,11 +1,7 @@
 -- What is due where a board goes on, and the addresses that a host hands in.
-use Rattle.std.proofs.Common.{◌≡◌, ◌≢◌, inl, inr, ℕ, ℤ, Bool, true, false, ◌||◌, ◌&&◌, is_some}
-use Rattle.std.proofs.Common.{List, [], ◌∷◌, length, Option, None, Some, refl, sym, subst, arith}
-use Rattle.pac_board_model.specs.Output.{Image, image_of}
-use Rattle.pac_board_model.proofs.Walks.{not-both}
-use Rattle.pac_board.specs.State.{BoardValue, due_outputs, due_with}
-use Rattle.pac_live.specs.declared.live_until.PacUntil.{PacUntil}
-use Rattle.pac_live.specs.LiveUntil.{IsGoneOn, IsMap, watch_map}
+use Rattle.pac_live.proofs.Common.{BoardValue, Bool, Image, IsGoneOn, IsMap, List, None, Option, PacUntil, Some, [], arith, due_outputs}
+use Rattle.pac_live.proofs.Common.{due_with, false, image_of, inl, inr, is_some, length, not-both, refl, subst, sym, true, watch_map, ℕ, ℤ}
+use Rattle.pac_live.proofs.Common.{◌&&◌, ◌||◌, ◌∷◌, ◌≡◌, ◌≢◌}
 
 -- ---- whether something is due
 

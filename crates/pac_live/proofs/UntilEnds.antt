@@ -1,35 +1,13 @@
 -- How a board goes on until something ends it, put together from what its parts say.
-use Rattle.std.proofs.Common.{◌≡◌, ◌≢◌, ◌≤◌, ◌<◌, inl, inr, ℕ, zero, suc, ℤ, ◌+◌, ◌-◌, ◌^◌, nat_lt, Bool, true, false}
-use Rattle.std.proofs.Common.{List, [], ◌∷◌, ◌++◌, length, Option, None, refl, sym, ap, subst, ◌∙◌, arith}
-use Rattle.std.proofs.lemmas.Bool.Decides.{nat_tests}
-use Rattle.std.proofs.lemmas.List.{append-nil}
-use Rattle.pac_board_model.specs.BoardView.{BoardView}
-use Rattle.pac_board_model.specs.Output.{Output, Sound, Show, sound_count}
-use Rattle.pac_board_model.specs.Step.{step}
-use Rattle.pac_board_model.specs.Trace.{by_view}
-use Rattle.pac_board_model.specs.Walk.{Walk, walk_at_start}
-use Rattle.pac_board_model.proofs.Walks.{ended-whole, late-has-ended, not-both, step-timely}
-use Rattle.pac_board.proofs.Roads.{met-nothing}
-use Rattle.pac_board.proofs.Sinks.{cut-after, cut-along, took-both}
-use Rattle.pac_board.proofs.Turns.{run-later}
-use Rattle.pac_board.specs.Calls.{with_due}
-use Rattle.pac_board.specs.Turns.{way, way_at, board_after_walk}
-use Rattle.pac_board.specs.CallsLaws.{IsOfferRefused}
-use Rattle.pac_board.specs.Access.{Access}
-use Rattle.pac_board.specs.Roads.{HasGoneUntil, IsHeld}
-use Rattle.pac_board.specs.RoadsProofs.{BoardPasses, BoardWatched}
-use Rattle.pac_board.specs.Sinks.{TookAll}
-use Rattle.pac_board.specs.SinksLaws.{by, Cut}
-use Rattle.pac_board.specs.State.{BoardValue, due_outputs, nothing_due, steps_counted}
-use Rattle.pac_board.specs.Stop.{Stop}
-use Rattle.pac_board.specs.Stops.{is_stop}
-use Rattle.pac_live.specs.declared.live_until.Ended.{Ended}
-use Rattle.pac_live.specs.declared.live_until.Ended.TheVariants.{TimeOver, AtPlace, AtStop, BufferFull, AtAccess}
-use Rattle.pac_block.specs.declared.sounds.Sounds.{Sounds}
-use Rattle.pac_live.specs.LiveUntil.{EndsBy, HasComeTo, HasMet, PassesPlaces, WentBy}
-use Rattle.pac_live.specs.LiveUntils.{IsGone, WalksOn, WalksBy}
-use Rattle.pac_block.specs.Sounding.{sounding_took, sounding_refused}
-use Rattle.pac_block.proofs.Sounding.{are-written, sounds-append}
+use Rattle.pac_live.proofs.Common.{Access, AtAccess, AtPlace, AtStop, BoardPasses, BoardValue, BoardView, BoardWatched, Bool, BufferFull}
+use Rattle.pac_live.proofs.Common.{Cut, Ended, EndsBy, HasComeTo, HasGoneUntil, HasMet, IsGone, IsHeld, IsOfferRefused, List, None, Option}
+use Rattle.pac_live.proofs.Common.{Output, PassesPlaces, Show, Sound, Sounds, Stop, TimeOver, TookAll, Walk, WalksBy, WalksOn, WentBy, []}
+use Rattle.pac_live.proofs.Common.{ap, append-nil, are-written, arith, board_after_walk, by, by_view, cut-after, cut-along, due_outputs}
+use Rattle.pac_live.proofs.Common.{ended-whole, false, inl, inr, is_stop, late-has-ended, length, met-nothing, nat_lt, nat_tests, not-both}
+use Rattle.pac_live.proofs.Common.{nothing_due, refl, run-later, sounding_refused, sounding_took, sounds-append, step, step-timely}
+use Rattle.pac_live.proofs.Common.{steps_counted, subst, suc, sym, took-both, true, walk_at_start, way, way_at, with_due, zero, ℕ, ℤ, ◌++◌}
+use Rattle.pac_live.proofs.Common.{◌+◌, ◌-◌, ◌<◌, ◌^◌, ◌∙◌, ◌∷◌, ◌≡◌, ◌≢◌, ◌≤◌}
+use Rattle.pac_board_model.specs.Output.{sound_count}
 use Rattle.pac_live.proofs.UntilPasses.{none-passed, passes-there}
 
 -- ---- a full buffer

@@ -1,24 +1,10 @@
 -- How much a board that goes on gives out, and where it is then.
-use Rattle.std.proofs.Common.{◌≡◌, ◌≤◌, ℕ, ◌+◌, ◌^◌, Bool, List, ◌++◌, Option, sym, ap, ◌∙◌, arith}
-use Rattle.std.proofs.lemmas.List.{append-nil}
-use Rattle.pac_board_model.specs.BoardView.{BoardView}
-use Rattle.pac_board_model.specs.Laws.{IsTimely}
-use Rattle.pac_board_model.specs.Output.{Output, image_of, sound_count, picture_count}
-use Rattle.pac_board_model.specs.Step.{Moment, step}
-use Rattle.pac_board_model.specs.Trace.{by_view}
-use Rattle.pac_board_model.proofs.Walks.{step-timely}
-use Rattle.pac_board_model.proofs.Runs.{walk-below}
-use Rattle.pac_board_model.proofs.WalkTimes.{walks-are-timed}
-use Rattle.pac_board.specs.Calls.{with_due}
-use Rattle.pac_board.specs.Turns.{way, way_at, board_after_walk}
-use Rattle.pac_board.specs.Access.{Access}
-use Rattle.pac_board.specs.State.{BoardValue, due_outputs}
-use Rattle.pac_board.specs.Stop.{Stop}
-use Rattle.pac_live.specs.declared.live_until.Ended.{Ended}
-use Rattle.pac_live.specs.declared.live_until.Ended.TheVariants.{TimeOver, AtPlace, AtStop, BufferFull, AtAccess}
-use Rattle.pac_live.specs.LiveUntil.{HasComeTo, WentBy}
+use Rattle.pac_live.proofs.Common.{Access, AtAccess, AtPlace, AtStop, BoardValue, BoardView, Bool, BufferFull, Ended, HasComeTo, IsTimely}
+use Rattle.pac_live.proofs.Common.{List, Moment, Option, Output, Stop, TimeOver, WentBy, ap, append-nil, arith, board_after_walk, by_view}
+use Rattle.pac_live.proofs.Common.{due-pictures, due-sounds, due_outputs, image_of, pictures-append, sounds-append, step, step-timely, sym}
+use Rattle.pac_live.proofs.Common.{walk-below, walks-are-timed, way, way_at, with_due, ℕ, ◌++◌, ◌+◌, ◌^◌, ◌∙◌, ◌≡◌, ◌≤◌}
+use Rattle.pac_board_model.specs.Output.{sound_count, picture_count}
 use Rattle.pac_live.proofs.LiveSteps.{at-most-one}
-use Rattle.pac_block.proofs.Sounding.{due-pictures, due-sounds, pictures-append, sounds-append}
 
 few-due : (board : BoardValue) → sound_count (due_outputs board) ≤ 1
 few-due board =

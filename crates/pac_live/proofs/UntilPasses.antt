@@ -1,21 +1,9 @@
 -- How many steps a walk does, and that none but the first of them began where it was to stop.
-use Rattle.std.proofs.Common.{◌≡◌, ◌≤◌, ◌<◌, ℕ, zero, suc, ◌+◌, ◌-◌, nat_le, Bool, true, false}
-use Rattle.std.proofs.Common.{List, Option, None, refl, sym, ap, subst, ◌∙◌, arith}
-use Rattle.pac_board_model.specs.BoardView.{BoardView}
-use Rattle.pac_board_model.specs.Laws.{IsTimely}
-use Rattle.pac_board_model.specs.Step.{Moment, Next, Goes, Ends, step}
-use Rattle.pac_board_model.specs.Trace.{by_view}
-use Rattle.pac_board_model.specs.Walk.{Walk, walk, walk_after_step, onward_if}
-use Rattle.pac_board_model.specs.WalkLaws.{has_ended}
-use Rattle.pac_board_model.proofs.Walks.{ended-for-good, going-before, going-steps, step-timely}
-use Rattle.pac_board.specs.Calls.{now_after}
-use Rattle.pac_board.specs.Turns.{way_at}
-use Rattle.pac_board.specs.RoadsProofs.{BoardPasses}
-use Rattle.pac_board.specs.State.{BoardValue}
-use Rattle.pac_board.specs.Stop.{Stop}
-use Rattle.pac_board.specs.Stops.{is_stop}
-use Rattle.pac_board.specs.Trails.{stepped}
-use Rattle.pac_live.specs.LiveUntil.{PassesPlaces}
+use Rattle.pac_live.proofs.Common.{BoardPasses, BoardValue, BoardView, Bool, Ends, Goes, IsTimely, List, Moment, Next, None, Option}
+use Rattle.pac_live.proofs.Common.{PassesPlaces, Stop, Walk, ap, arith, by_view, ended-for-good, false, going-before, going-steps}
+use Rattle.pac_live.proofs.Common.{has_ended, is_stop, now_after, onward_if, refl, step, step-timely, stepped, subst, suc, sym, true, walk}
+use Rattle.pac_live.proofs.Common.{walk_after_step, way_at, zero, ℕ, ◌+◌, ◌-◌, ◌<◌, ◌∙◌, ◌≡◌, ◌≤◌}
+use Rattle.std.proofs.Common.{nat_le}
 
 module _ {Board : Type 0} (next : Moment Board → Next Board) (limit : ℕ) (timely : (now : Moment Board) → IsTimely now (next now))
     (from : Moment Board) where

@@ -1,16 +1,8 @@
 -- Lines of the picture that are composed again, from the top.
-use Rattle.std.proofs.Common.{◌≡◌, ◌<◌, ◌≤◌, ℕ, zero, suc, ◌+◌, ◌-◌, List, [], ◌∷◌, ◌++◌, length, set, drop, refl, sym, ap, ◌∙◌}
-use Rattle.std.proofs.Common.{arith, append_assoc}
-use Rattle.std.proofs.lemmas.List.{drop-set, drop-set-add, set-append_right}
-use Rattle.pac_cpu.specs.Tabulate.{tabulate}
-use Rattle.pac_cpu.proofs.Tabulated.{length-tabulate}
-use Rattle.std.specs.Prelude.{slice_set}
-use Rattle.pac_picture.specs.Picture.{picture_line}
-use Rattle.pac_picture.specs.PictureProofs.{lines_composed}
-use Rattle.pac_board_model.specs.BoardView.{video_roms, video_memory}
-use Rattle.pac_machine.specs.StandingProofs.{BoardStanding}
-use Rattle.pac_machine.specs.BurstsProofs.{standing_composed}
-use Rattle.pac_machine.specs.Standing.{recomposed_view}
+use Rattle.pac_machine.proofs.Common.{BoardStanding, List, [], ap, append_assoc, arith, drop, drop-set, drop-set-add, length}
+use Rattle.pac_machine.proofs.Common.{length-tabulate, lines_composed, picture_line, recomposed_view, refl, set, set-append_right}
+use Rattle.pac_machine.proofs.Common.{slice_set, standing_composed, suc, sym, tabulate, video_memory, video_roms, zero, ℕ, ◌++◌, ◌+◌, ◌-◌}
+use Rattle.pac_machine.proofs.Common.{◌<◌, ◌∙◌, ◌∷◌, ◌≡◌, ◌≤◌}
 
 -- none yet, and one more
 none-yet : {A : Type 0} (value : ℕ → A) (lines : List A) → lines ≡ tabulate 0 value ++ drop 0 lines

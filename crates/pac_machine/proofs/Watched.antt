@@ -1,34 +1,14 @@
 -- What steps do at addresses that are watched: the writes of a step over a bus that looks at them, its reads, and steps one after another.
-use Rattle.std.proofs.Common.{◌≡◌, ℕ, suc, ◌+◌, ◌-◌, ◌<◌, ◌≤◌, nat_lt, nat_le, Bool, true, false, ◌&&◌, not, is_some, cond}
-use Rattle.std.proofs.Common.{List, [], ◌∷◌, ◌++◌, Option, None, Some, refl, sym, ap, subst, ◌∙◌, arith}
-use Rattle.std.proofs.lemmas.Bool.Decides.{nat_tests}
-use Rattle.pac_cpu.specs.Action.{Action, Write, Output}
-use Rattle.pac_cpu.specs.ActionLaws.{bus_after_actions}
-use Rattle.pac_cpu.specs.Regs.{Regs}
-use Rattle.pac_cpu.specs.Step.{Surroundings, CpuStep, Steps, Stops, cpu_step}
-use Rattle.pac_cpu.specs.StepReads.{reads_in}
-use Rattle.pac_cpu.specs.StepLaws.{surroundings_of, once_of_step}
-use Rattle.pac_cpu.specs.StepProofs.{DoesCpuStep, actions_of}
-use Rattle.pac_cpu.specs.declared.once.Once.{Once}
-use Rattle.pac_cpu.specs.declared.once.Once.TheVariants.{Stepped, Stopped}
-use Rattle.pac_cpu.specs.declared.once.Stop.{Stop}
-use Rattle.pac_map.specs.ContentsProofs.{map_byte_at, map_input_at, map_after_action}
-use Rattle.pac_map.specs.RomParts.{Parts}
-use Rattle.pac_map.specs.declared.board_bus.Map.{Map}
-use Rattle.pac_wave.specs.Wave.{Accumulators}
-use Rattle.pac_board_model.specs.BoardView.{BoardView}
-use Rattle.pac_board_model.specs.Step.{Moment, Next, surroundings, step}
-use Rattle.pac_board_model.specs.Trace.{by_view}
-use Rattle.pac_machine.specs.declared.trail.PastStep.{PastStep}
-use Rattle.pac_machine.specs.declared.watch.WatchedBus.{WatchedBus}
-use Rattle.pac_machine.specs.declared.watch.Access.{Access}
+use Rattle.pac_machine.proofs.Common.{Access, Accumulators, Action, Acts, BoardStanding, BoardView, Bool, BurstsQuietly, CpuStep}
+use Rattle.pac_machine.proofs.Common.{DoesCpuStep, IsNoted, IsWatched, List, Map, Moment, Next, None, Once, Option, Parts, PastStep, Regs}
+use Rattle.pac_machine.proofs.Common.{Some, Stepped, Steps, Stop, Stopped, Stops, Surroundings, WatchedBus, Write, [], actions_of, ap}
+use Rattle.pac_machine.proofs.Common.{arith, burst_at, bus_after_actions, by_view, cond, cpu_step, eventless_step, false, first_of}
+use Rattle.pac_machine.proofs.Common.{first_read, first_write, is_some, map_after_action, map_byte_at, map_input_at, nat_le, nat_lt}
+use Rattle.pac_machine.proofs.Common.{nat_tests, next_line, not, once_of_step, part_of, reads_in, refl, step, stepped, subst, suc}
+use Rattle.pac_machine.proofs.Common.{surroundings, surroundings_of, sym, true, watched_after_action, watched_at, watched_byte_at}
+use Rattle.pac_machine.proofs.Common.{watched_in, watched_input_at, watches_writes, ℕ, ◌&&◌, ◌++◌, ◌+◌, ◌-◌, ◌<◌, ◌∙◌, ◌∷◌, ◌≡◌, ◌≤◌}
+use Rattle.pac_cpu.specs.Action.{Output}
 use Rattle.pac_machine.specs.declared.watch.Access.TheVariants as access
-use Rattle.pac_machine.specs.StandingProofs.{BoardStanding}
-use Rattle.pac_machine.specs.BurstsProofs.{eventless_step, BurstsQuietly, next_line, burst_at}
-use Rattle.pac_machine.specs.Events.{Acts, part_of}
-use Rattle.pac_machine.specs.Trails.{IsNoted, stepped}
-use Rattle.pac_machine.specs.Watches.{first_of, first_read, first_write, watched_in, watched_at, watches_writes, IsWatched}
-use Rattle.pac_machine.specs.WatchesProofs.{watched_byte_at, watched_input_at, watched_after_action}
 use Rattle.pac_machine.proofs.Batches.{surroundings-voiced, voiced_now, voices_after}
 use Rattle.pac_machine.proofs.Noted.{stepped-joined, burst-within, told-at}
 use Rattle.pac_machine.proofs.Processor.{surroundings-agree, board_of}

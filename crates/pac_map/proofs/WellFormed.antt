@@ -1,18 +1,11 @@
 -- A view stays one that a board can have, at power-on and whatever happens to the board.
-use Rattle.std.proofs.Common.{◌≡◌, ◌≢◌, ℕ, zero, suc, ◌+◌, ◌%◌, ◌<◌, ◌≤◌, ◌==◌, Bool, true, false, cond, refl, sym, ap, ◌∙◌, arith}
-use Rattle.std.proofs.Common.{List, length, slice_index, slice_set, nat_lt, rules}
-use Rattle.std.proofs.Math.Nat.{min-le_left}
-use Rattle.std.proofs.lemmas.Bool.Decides.{nat_tests}
-use Rattle.std.proofs.lemmas.Grind.{get_or-set_at}
-use Rattle.std.proofs.lemmas.List.{get_or-set_other, get_or_past, length-set, length-replicate}
-use Rattle.pac_latch.specs.Latched.{Latched, watchdog_limit, latched_after_bit, latched_after_vector, latched_after_kick}
-use Rattle.pac_latch.specs.Latched.{latched_after_accept, latched_after_reset, latched_after_blank}
-use Rattle.pac_map.specs.declared.bus_table.BusPlace.{BusPlace}
-use Rattle.pac_map.specs.declared.bus_table.BusPlace.TheVariants.{Tile, Colour, Work, Kick, Latch, Wave, Coordinate}
-use Rattle.pac_map.specs.Place.{ram_size, coordinates_size, registers_size}
-use Rattle.pac_map.specs.Cleared.{zero_ram}
-use Rattle.pac_map.specs.View.{View, IsWellFormed, power_on_view, is_kept, kept_nibble}
-use Rattle.pac_map.specs.Entry.{Entry, Write, Vector, Blank, Accept, Reset, Hold, view_after_write, view_after}
+use Rattle.pac_map.proofs.Common.{Accept, Blank, Bool, BusPlace, Colour, Coordinate, Entry, Hold, IsWellFormed, Kick, Latch, Latched, List}
+use Rattle.pac_map.proofs.Common.{Reset, Tile, Vector, View, Wave, Work, Write, ap, arith, cond, coordinates_size, false, get_or-set_at}
+use Rattle.pac_map.proofs.Common.{get_or-set_other, get_or_past, is_kept, kept_nibble, latched_after_accept, latched_after_bit}
+use Rattle.pac_map.proofs.Common.{latched_after_blank, latched_after_kick, latched_after_reset, latched_after_vector, length}
+use Rattle.pac_map.proofs.Common.{length-replicate, length-set, min-le_left, nat_lt, nat_tests, power_on_view, ram_size, refl}
+use Rattle.pac_map.proofs.Common.{registers_size, rules, slice_index, slice_set, suc, sym, true, view_after, view_after_write}
+use Rattle.pac_map.proofs.Common.{watchdog_limit, zero, zero_ram, ℕ, ◌%◌, ◌+◌, ◌<◌, ◌==◌, ◌∙◌, ◌≡◌, ◌≢◌, ◌≤◌}
 
 pub length-cleared : (count : ℕ) → length (zero_ram count) ≡ count
 unfolding zero_ram

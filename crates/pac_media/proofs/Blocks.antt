@@ -1,19 +1,11 @@
 -- An image that is made of pieces of one length, of which some are written over.
-use Rattle.std.proofs.Common.{◌≡◌, ℕ, zero, suc, ◌+◌, ◌*◌, ◌<◌, ◌≤◌, List, [], ◌∷◌, ◌++◌, rules, length, take, drop, get_or, set}
-use Rattle.std.proofs.Common.{slice_index, refl, sym, ap, subst, ◌∙◌, arith, append_assoc, append-nil, EachIndex}
-use Rattle.std.proofs.Common.{length-append, length-take, length-drop}
-use Rattle.std.proofs.Math.Seq.{take-append-add, drop-append-add, drop-cons}
-use Rattle.std.proofs.lemmas.Bool.{cases_lt}
-use Rattle.std.proofs.lemmas.List.{take_at, take_all, drop-drop, set_split, length-take-le}
-use Rattle.std.proofs.lemmas.List.{get_or-take, get_or-drop, get_or_append_left, get_or-append_right}
-use Rattle.std.proofs.lemmas.List.{flat_map_more, take_more, same_lists, get_or_default}
-use Rattle.std.proofs.lemmas.Slice.{take-put_mid}
+use Rattle.pac_media.proofs.Common.{AreColours, EachIndex, IsDrawnTo, IsPicture, List, [], ap, append-nil, append_assoc, arith, cases_lt}
+use Rattle.pac_media.proofs.Common.{common_steps, drop, drop-append-add, drop-cons, drop-drop, flat_map, flat_map-append, flat_map_more}
+use Rattle.pac_media.proofs.Common.{get_or, get_or-append_right, get_or-drop, get_or-take, get_or_append_left, get_or_default, header}
+use Rattle.pac_media.proofs.Common.{length, length-append, length-drop, length-take, length-take-le, palette_colour, ppm_of, refl, rules}
+use Rattle.pac_media.proofs.Common.{same_lists, set, set_split, slice_index, subst, suc, sym, take, take-append-add, take-put_mid, take_all}
+use Rattle.pac_media.proofs.Common.{take_at, take_more, zero, ℕ, ◌*◌, ◌++◌, ◌+◌, ◌<◌, ◌∙◌, ◌∷◌, ◌≡◌, ◌≤◌}
 use borrow.Rule.Slice.PartMut.{put_mid}
-use Rattle.std.specs.List.{flat_map}
-use Rattle.std.proofs.lemmas.Grind.{flat_map-append, common_steps}
-use Rattle.pac_picture.specs.State.{IsPicture}
-use Rattle.pac_media.specs.Images.{palette_colour, header, ppm_of}
-use Rattle.pac_media.specs.Drawn.{AreColours, IsDrawnTo}
 use Rattle.pac_media.proofs.Words.{take-more}
 
 -- what each of these gives has one length

@@ -1,16 +1,9 @@
 -- What a wave file was given in parts, and silence sample by sample.
-use Rattle.std.proofs.Common.{◌≡◌, ℕ, pos, ◌+◌, ◌-◌, ◌/◌, ◌<◌, ◌≤◌, Bool, if◌then◌else◌, rules, List, [], ◌++◌, replicate, length, Result}
-use Rattle.std.proofs.Common.{Ok, Err, sym, ap, subst, ◌∙◌, append_assoc, append-nil, arith, true}
-use Rattle.std.proofs.lemmas.List.{flat_map_more, replicate_more, replicate-append-replicate}
-use Rattle.std.proofs.lemmas.Grind.{flat_map-append, common_steps}
-use Rattle.pac_out.specs.declared.WriteFault.{WriteFault}
-use Rattle.pac_out.specs.declared.counted.Counted.{Counted}
-use Rattle.pac_out.specs.CountedLaws.{HasTaken, HasStopped, Refuses}
-use Rattle.pac_out.specs.CountedProofs.{Stops}
-use Rattle.pac_out.proofs.Files.{Joins, stops-after, stops-within}
-use Rattle.pac_out.specs.Writes.{StopsAfter}
-use Rattle.pac_media.specs.Samples.{sample_text, samples_text}
-use Rattle.pac_media.specs.Sound.{Sound, Gains, Delivers, SoundFails, FinishesSound}
+use Rattle.pac_media.proofs.Common.{Bool, Counted, Delivers, Err, FinishesSound, Gains, HasStopped, HasTaken, Joins, List, Ok, Refuses}
+use Rattle.pac_media.proofs.Common.{Result, Sound, SoundFails, Stops, StopsAfter, WriteFault, [], ap, append-nil, append_assoc, arith}
+use Rattle.pac_media.proofs.Common.{common_steps, flat_map-append, flat_map_more, if◌then◌else◌, length, pos, replicate}
+use Rattle.pac_media.proofs.Common.{replicate-append-replicate, replicate_more, rules, sample_text, samples_text, stops-after, stops-within}
+use Rattle.pac_media.proofs.Common.{subst, sym, true, ℕ, ◌++◌, ◌+◌, ◌-◌, ◌/◌, ◌<◌, ◌∙◌, ◌≡◌, ◌≤◌}
 
 -- where there is room for a sample, its two bytes fit
 pub room-left : (failed : Bool) (waiting : ℕ) → 0 < (if failed then 0 else (8192 - waiting) / 2) → waiting + 2 ≤ 8192

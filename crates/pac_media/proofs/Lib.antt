@@ -1,3 +1,4 @@
+pub mod Common
 pub mod Words
 pub mod Blocks
 pub mod Gathered

@@ -1,12 +1,9 @@
 -- What colour numbers pick of a vector, vectors that are woven, and the pixels that come of both.
-use Rattle.std.proofs.Common.{◌≡◌, ◌<◌, ◌≤◌, ◌+◌, ◌++◌, ℕ, suc, List, [], ◌∷◌, length, get_or, map, take, slice_index, refl, sym, ◌∙◌}
-use Rattle.std.proofs.Common.{append_assoc, w8, arith}
-use Rattle.std.specs.List.{flat_map, range_with_len}
-use Rattle.std.proofs.lemmas.List.{get_or-map, length-map, ext_get_or, take_all}
-use Rattle.std.proofs.lemmas.Simd.{Each1-from_get_or, SwzOk, SwzOk-from_below, swz_l, length-swz_l, get_or-swz_l_below, pick_l_whole}
+use Rattle.pac_media.proofs.Common.{ArePlanes, Each1-from_get_or, List, SwzOk, SwzOk-from_below, [], append_assoc, arith, ext_get_or}
+use Rattle.pac_media.proofs.Common.{flat_map, get_or, get_or-map, get_or-swz_l_below, length, length-map, length-swz_l, map, palette_colour}
+use Rattle.pac_media.proofs.Common.{pick_l_whole, range_with_len, refl, rgb_pixels, slice_index, suc, swz_l, sym, take, take_all, w8, ℕ}
+use Rattle.pac_media.proofs.Common.{◌++◌, ◌+◌, ◌<◌, ◌∙◌, ◌∷◌, ◌≡◌, ◌≤◌}
 use lib.Lanes.{pick_l}
-use Rattle.pac_media.specs.Images.{palette_colour}
-use Rattle.pac_media.specs.Drawn.{ArePlanes, rgb_pixels}
 
 -- ---- what is picked
 

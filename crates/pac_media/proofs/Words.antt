@@ -1,11 +1,7 @@
 -- 32 colour numbers that are compared as words of eight.
-use Rattle.std.proofs.Common.{◌≡◌, ℕ, ◌+◌, ◌<◌, ◌≤◌, max, List, ◌++◌, rules, take, drop, refl, sym, ap, ◌∙◌, arith, ◌↔◌, ◌^◌, IsTrue, eqb}
-use Rattle.std.proofs.lemmas.Bool.{eqb-true}
-use Rattle.std.proofs.lemmas.List.{take-take, drop-take, drop-drop, take-append-drop}
-use Rattle.std.proofs.lemmas.Nat.Bits.{bit_at_or, bit_at_xor, bit_at-zero, bit_at-lt, same_from_bits}
-use Rattle.std.specs.Int.{w64, to_le_bytes, from_le_bytes, bit_at}
-use Rattle.std.specs.Int.Bits.{xor_self}
-use Rattle.std.specs.Int.RustNames.{bit_or, bit_xor}
+use Rattle.pac_media.proofs.Common.{IsTrue, List, ap, arith, bit_at, bit_at-lt, bit_at-zero, bit_at_or, bit_at_xor, bit_or, bit_xor, drop}
+use Rattle.pac_media.proofs.Common.{drop-drop, drop-take, eqb, eqb-true, from_le_bytes, max, refl, rules, same_from_bits, sym, take}
+use Rattle.pac_media.proofs.Common.{take-append-drop, take-take, to_le_bytes, w64, xor_self, ℕ, ◌++◌, ◌+◌, ◌<◌, ◌^◌, ◌↔◌, ◌∙◌, ◌≡◌, ◌≤◌}
 
 -- a list in two parts
 pub take-more : {X : Type 0} (n m : ℕ) (xs : List X) → take (n + m) xs ≡ take n xs ++ take m (drop n xs)

@@ -1,15 +1,7 @@
 -- What a file took, and where it stopped, in a text that is put together of parts.
-use Rattle.std.proofs.Common.{◌≡◌, ℕ, ◌+◌, ◌^◌, ◌<◌, ◌≤◌, List, [], ◌++◌, length, refl, sym, ap, subst, ◌∙◌, append_assoc, append-nil}
-use Rattle.std.proofs.Common.{length-append, arith, Result, Ok, Err}
-use Rattle.std.proofs.Math.Seq.{take-append-add}
-use Rattle.std.proofs.lemmas.List.{take-append-le}
-use Rattle.pac_out.specs.declared.counted.Counted.{Counted}
-use Rattle.pac_out.specs.declared.WriteFault.{WriteFault}
-use Rattle.pac_out.specs.CountedLaws.{HasTaken, HasStopped, Takes, HasPut, Refuses}
-use Rattle.pac_out.specs.CountedProofs.{Puts}
-use Rattle.std.specs.Borrow.{MutBor}
-use Rattle.pac_out.specs.Writes.{StopsAfter}
-use Rattle.pac_out.specs.WritesProofs.{lent_took, lent_refused}
+use Rattle.pac_out.proofs.Common.{Counted, Err, HasPut, HasStopped, HasTaken, List, MutBor, Ok, Puts, Refuses, Result, StopsAfter, Takes}
+use Rattle.pac_out.proofs.Common.{WriteFault, [], ap, append-nil, append_assoc, arith, length, length-append, lent_refused, lent_took, refl}
+use Rattle.pac_out.proofs.Common.{subst, sym, take-append-add, take-append-le, ℕ, ◌++◌, ◌+◌, ◌<◌, ◌^◌, ◌∙◌, ◌≡◌, ◌≤◌}
 
 -- taking some bytes and then others is taking all of them
 abbrev pub Joins : {W : Type 0} → (W → List ℕ → W → Type 0) → Type 0

@@ -1,10 +1,6 @@
 -- A text that is gathered in parts: what is done of it, and what is left.
-use Rattle.std.proofs.Common.{◌≡◌, ℕ, List, [], ◌++◌, sym, ap, subst, ◌∙◌, append_assoc, append-nil, refl, Result, Ok, Err}
-use Rattle.pac_out.specs.declared.counted.Counted.{Counted}
-use Rattle.pac_out.specs.declared.WriteFault.{WriteFault}
-use Rattle.pac_out.specs.CountedLaws.{Takes, HasPut, Refuses}
-use Rattle.pac_out.specs.CountedProofs.{Puts}
-use Rattle.pac_out.specs.Pending.{Holds, Gathers}
+use Rattle.pac_out.proofs.Common.{Counted, Err, Gathers, HasPut, Holds, List, Ok, Puts, Refuses, Result, Takes, WriteFault, [], ap}
+use Rattle.pac_out.proofs.Common.{append-nil, append_assoc, refl, subst, sym, ℕ, ◌++◌, ◌∙◌, ◌≡◌}
 use Rattle.pac_out.proofs.Files.{takes-nothing, takes-joined, put-after, refuses-after, refuses-within}
 
 -- Of this text a part is gathered, after what waited, and the rest is left.

@@ -1,13 +1,9 @@
 -- Sprites that do the same to a line, told by bits.
-use Rattle.std.proofs.Common.{◌≡◌, ℕ, suc, ◌+◌, ◌*◌, ◌/◌, ◌%◌, ◌^◌, ◌<◌, ◌||◌, ◌==◌, Bool, true, false, if◌then◌else◌}
-use Rattle.std.proofs.Common.{List, length, slice_index, refl, sym, ap, ◌∙◌, arith, pos, ◌-ℤ◌, bit_and, bit_or}
-use Rattle.std.specs.Int.{bit_at}
-use Rattle.std.proofs.lemmas.Bool.{true≢false, eqb-true}
-use Rattle.std.proofs.lemmas.Grind.{same_number_lists}
-use Rattle.std.proofs.lemmas.Nat.Bits.{bit_at_or, bit_at_and, bit_at-zero, bit_at-suc}
-use Rattle.std.proofs.lemmas.Simd.{get_or-chunk, length-chunk}
+use Rattle.pac_picture.proofs.Common.{Bool, List, ap, arith, bit_and, bit_at, bit_at-suc, bit_at-zero, bit_at_and, bit_at_or, bit_or}
+use Rattle.pac_picture.proofs.Common.{eqb-true, false, get_or-chunk, if◌then◌else◌, is_in_box, length, length-chunk, pos, refl}
+use Rattle.pac_picture.proofs.Common.{same_number_lists, slice_index, sprite_of, suc, sym, true, true≢false, ℕ, ◌%◌, ◌*◌, ◌+◌, ◌-ℤ◌, ◌/◌}
+use Rattle.pac_picture.proofs.Common.{◌<◌, ◌==◌, ◌^◌, ◌||◌, ◌∙◌, ◌≡◌}
 use lib.Lanes.{chunk}
-use Rattle.pac_sprites.specs.Sprites.{sprite_of, is_in_box}
 
 -- sixteen bytes, as a vector takes them
 pub all-sixteen : (bytes : List ℕ) → length bytes ≡ 16 → chunk 0 16 bytes ≡ bytes

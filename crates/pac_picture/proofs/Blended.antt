@@ -1,23 +1,16 @@
 -- Sixteen numbers of a sprite at once: painted over others, flipped, and placed where its whole box shows.
-use Rattle.std.proofs.Common.{◌≡◌, ℕ, ℤ, pos, ◌+ℤ◌, ◌≤ℤ◌, ◌+◌, ◌-◌, ◌<◌, ◌≤◌, ◌&&◌, ◌++◌, Bool, not, true, false, nat_le, nat_lt, cond}
-use Rattle.std.proofs.Common.{if◌then◌else◌, List, [], ◌∷◌, length, get_or, map, drop, replicate, refl, sym, ap, ◌∙◌, arith}
-use Rattle.std.proofs.lemmas.Simd.{tops_compared, get_or-sel_l, get_or-zip2, length-zip2, get_or-chunk}
-use Rattle.std.proofs.lemmas.Simd.{get_or-put_chunk_at, get_or-put_chunk_above, length-put_chunk}
-use Rattle.std.proofs.lemmas.List.{length-replicate, get_or-replicate, get_or_append_left}
-use Rattle.std.proofs.lemmas.List.{length-take-le, length-drop, get_or-take, get_or-drop}
-use Rattle.std.proofs.lemmas.Bool.{cases_Bool, cases_lt}
-use Rattle.std.proofs.lemmas.Bool.Decides.{nat_tests}
-use Rattle.std.proofs.lemmas.Int.{ints}
+use Rattle.pac_picture.proofs.Common.{Bool, List, Sprite, [], ap, arith, box_place, cases_Bool, cases_lt, cond, drop, false, flipped_place}
+use Rattle.pac_picture.proofs.Common.{get_or, get_or-before-put_mid, get_or-chunk, get_or-drop, get_or-in-put_mid, get_or-put_chunk_above}
+use Rattle.pac_picture.proofs.Common.{get_or-put_chunk_at, get_or-replicate, get_or-sel_l, get_or-take, get_or-zip2, get_or_append_left}
+use Rattle.pac_picture.proofs.Common.{if◌then◌else◌, ints, is_column_of, length, length-drop, length-put_chunk, length-replicate}
+use Rattle.pac_picture.proofs.Common.{length-take-le, length-zip2, map, nat_le, nat_lt, nat_tests, not, over_line, painted_number, pos}
+use Rattle.pac_picture.proofs.Common.{refl, replicate, sym, tabulate, tops_compared, true, ℕ, ℤ, ◌&&◌, ◌++◌, ◌+ℤ◌, ◌+◌, ◌-◌, ◌<◌, ◌∙◌, ◌∷◌}
+use Rattle.pac_picture.proofs.Common.{◌≡◌, ◌≤ℤ◌, ◌≤◌}
 use mathlib.Core.Logic.{inl, inr}
 use lib.Lanes.{zip2, sel_l, top, pick_l, chunk, put_chunk}
 use lib.Dec.{eqb}
 use borrow.Rule.Slice.PartMut.{mid_of, put_mid}
 use mir.Syntax.{w8}
-use Rattle.pac_lemmas.proofs.Lists.{get_or-before-put_mid, get_or-in-put_mid}
-use Rattle.pac_num.specs.Tabulate.{tabulate}
-use Rattle.pac_sprites.specs.declared.Sprite.{Sprite}
-use Rattle.pac_sprites.specs.Sprites.{is_column_of, box_place, flipped_place}
-use Rattle.pac_picture.specs.Painting.{painted_number, over_line}
 use Rattle.pac_picture.proofs.Strips.{picked-at}
 
 -- ---- numbers painted over others

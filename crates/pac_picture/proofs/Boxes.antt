@@ -1,18 +1,13 @@
 -- The lines of sprites' boxes, looked for in the lanes of a vector.
-use Rattle.std.proofs.Common.{◌≡◌, ℕ, zero, suc, ◌+◌, ◌-◌, ◌*◌, ◌%◌, ◌^◌, ◌<◌, ◌≤◌, ◌==◌, Bool, false, List, [], ◌∷◌, length, map, get_or}
-use Rattle.std.proofs.Common.{replicate, slice_index, cond, if◌then◌else◌, true, refl, sym, ap, ◌∙◌, ◌/◌, arith, pos, ◌-ℤ◌}
-use Rattle.std.proofs.lemmas.Simd.{tops_compared, mask_l-mod, bit_mask_l, get_or-zip2, get_or-chunk, length-chunk, length-zip2}
-use Rattle.std.proofs.lemmas.List.{length-replicate}
-use Rattle.std.proofs.lemmas.Int.{ints}
-use Rattle.std.proofs.lemmas.Bool.{cases_Bool, ltb-true, ltb-false}
-use Rattle.std.proofs.lemmas.Bool.Decides.{nat_tests}
-use Rattle.std.proofs.Math.Nat.{zero-div}
+use Rattle.pac_picture.proofs.Common.{Bool, List, [], ap, arith, bit_mask_l, cases_Bool, cond, false, get_or, get_or-chunk}
+use Rattle.pac_picture.proofs.Common.{get_or-replicate-all, get_or-zip2, if◌then◌else◌, ints, is_in_box, length, length-chunk}
+use Rattle.pac_picture.proofs.Common.{length-replicate, length-zip2, ltb-false, ltb-true, map, mask_l-mod, nat_tests, pos, refl, replicate}
+use Rattle.pac_picture.proofs.Common.{slice_index, suc, sym, tops_compared, true, zero, zero-div, ℕ, ◌%◌, ◌*◌, ◌+◌, ◌-ℤ◌, ◌-◌, ◌/◌, ◌<◌}
+use Rattle.pac_picture.proofs.Common.{◌==◌, ◌^◌, ◌∙◌, ◌∷◌, ◌≡◌, ◌≤◌}
 use mathlib.Core.Logic.{inl, inr}
 use lib.Lanes.{chunk, zip2, mask_l, top}
 use lib.Dec.{ltb}
 use mir.Syntax.{w8}
-use Rattle.pac_lemmas.proofs.Lists.{get_or-replicate-all}
-use Rattle.pac_sprites.specs.Sprites.{is_in_box}
 
 -- each bit of the mask of a test of sixteen lanes
 lane-bit : (test : ℕ → ℕ → Bool) (one other : List ℕ) (k : ℕ) → length one ≡ 16 → length other ≡ 16 → k < 16 →

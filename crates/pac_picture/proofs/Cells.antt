@@ -1,14 +1,9 @@
 -- The bytes of a row of cells.
-use Rattle.std.proofs.Common.{◌≡◌, ◌≢◌, ℕ, zero, suc, ◌+◌, ◌*◌, ◌<◌, ◌++◌, List, [], ◌∷◌, length, get_or, set, slice_index, arith}
-use Rattle.std.proofs.Common.{get_or-set_other, length-append}
-use Rattle.std.proofs.lemmas.Bool.{cases_lt, cases_eq}
-use Rattle.std.proofs.lemmas.Grind.{get_or-set_at}
-use Rattle.std.proofs.lemmas.Bool.Decides.{nat_tests}
-use Rattle.std.proofs.lemmas.List.{get_or_append_left, length-set}
+use Rattle.pac_picture.proofs.Common.{List, [], arith, cases_eq, cases_lt, cells_of, get_or, get_or-set_at, get_or-set_other}
+use Rattle.pac_picture.proofs.Common.{get_or_append_left, length, length-append, nat_tests, offset_of, set, slice_index, suc, tabulate-is}
+use Rattle.pac_picture.proofs.Common.{zero, ℕ, ◌*◌, ◌++◌, ◌+◌, ◌<◌, ◌∷◌, ◌≡◌, ◌≢◌}
+use Rattle.std.proofs.lemmas.List.{length-set}
 use mathlib.Core.Logic.{inl, inr}
-use Rattle.pac_num.proofs.Tabulated.{tabulate-is}
-use Rattle.pac_tiles.specs.Tiles.{offset_of}
-use Rattle.pac_picture.specs.Layer.{cells_of}
 
 -- the cells in the middle of a row follow one another
 pub offset-middle : (k row : ℕ) → k < 32 → offset_of (suc (suc k)) row ≡ 32 * (row + 2) + k

@@ -1,22 +1,12 @@
 -- Lines of a picture that stay.
-use Rattle.std.proofs.Common.{◌≡◌, ◌≢◌, ℕ, zero, suc, ◌+◌, ◌-◌, ◌/◌, ◌<◌, ◌||◌, ◌==◌, Bool, true, false, not, cond, if◌then◌else◌}
-use Rattle.std.proofs.Common.{List, [], length, get_or, set, map, slice_index, refl, sym, ap, ◌∙◌, arith}
-use Rattle.std.proofs.Common.{get_or-set_other, get_or-set_same}
-use Rattle.std.specs.Prelude.{count_by}
-use Rattle.std.proofs.lemmas.List.{get_or-map, set-get_or}
-use Rattle.std.proofs.lemmas.Bool.{true≢false, cases_Bool, cases_eq, eqb-true}
+use Rattle.pac_picture.proofs.Common.{AreClean, AreSameOn, Bool, List, Shadow, Sprite, SpriteBytes, VideoMemory, VideoRoms, [], ap, arith}
+use Rattle.pac_picture.proofs.Common.{cases_Bool, cases_eq, cell_differs, cond, count_by, differing_cells, differing_in, dot, drawn_from}
+use Rattle.pac_picture.proofs.Common.{eqb-true, false, get_or, get_or-map, get_or-set_other, get_or-set_same, if◌then◌else◌, is_column_of}
+use Rattle.pac_picture.proofs.Common.{is_in_box, kept_dot, length, made_stale, map, not, picture_line, refl, seen_dot, seen_line}
+use Rattle.pac_picture.proofs.Common.{seen_sprite, set, set-get_or, shadow_at, shadow_from, slice_index, source_of, sprite_at, sprite_dot}
+use Rattle.pac_picture.proofs.Common.{sprites_at, suc, sym, tabulate, tabulate-same, true, true≢false, unflipped_line, zero, ℕ, ◌+◌, ◌-◌}
+use Rattle.pac_picture.proofs.Common.{◌/◌, ◌<◌, ◌==◌, ◌||◌, ◌∙◌, ◌≡◌, ◌≢◌}
 use mathlib.Core.Logic.{inl, inr}
-use Rattle.pac_num.specs.Tabulate.{tabulate}
-use Rattle.pac_num.proofs.Tabulated.{tabulate-same}
-use Rattle.pac_sprites.specs.declared.Sprite.{Sprite}
-use Rattle.pac_sprites.specs.Sprites.{is_in_box, is_column_of}
-use Rattle.pac_picture.specs.declared.shadow.Shadow.{Shadow}
-use Rattle.pac_picture.specs.declared.clean.SpriteBytes.{SpriteBytes}
-use Rattle.pac_picture.specs.Picture.{VideoRoms, VideoMemory, sprite_at, sprite_dot, dot, picture_line}
-use Rattle.pac_picture.specs.Layer.{drawn_from, shadow_at, shadow_from, differing_in, differing_cells, cell_differs}
-use Rattle.pac_picture.specs.LayerProofs.{kept_dot, made_stale}
-use Rattle.pac_picture.specs.StateLaws.{source_of}
-use Rattle.pac_picture.specs.CleanLines.{unflipped_line, sprites_at, seen_sprite, AreSameOn, seen_dot, seen_line, AreClean}
 use Rattle.pac_picture.proofs.Layers.{dot-drawn, shadow-set}
 use Rattle.pac_picture.proofs.Counts.{count-more}
 

@@ -1,26 +1,12 @@
 -- Lines of the picture, whole.
-use Rattle.std.proofs.Common.{◌≡◌, ◌≢◌, ℕ, zero, suc, ◌+◌, ◌-◌, ◌/◌, ◌<◌, ◌≤◌, []}
-use Rattle.std.proofs.Common.{Bool, true, false, if◌then◌else◌, List, length, get_or, set, replicate}
-use Rattle.std.proofs.Common.{slice_index, refl, ap, ◌∙◌, arith, get_or-set_other, get_or-set_same, length-set}
-use Rattle.std.specs.Prelude.{find, unwrap_or, reverse}
-use Rattle.std.proofs.lemmas.List.{get_or-reverse, length-reverse, length-replicate}
-use Rattle.std.proofs.lemmas.Bool.{cases_Bool, cases_lt, cases_eq}
-use Rattle.std.proofs.Math.ListN.{get_or-eq_default}
+use Rattle.pac_picture.proofs.Common.{Bool, IsPicture, List, Sprite, VideoMemory, VideoRoms, [], ap, arith, black, cases_Bool, cases_eq}
+use Rattle.pac_picture.proofs.Common.{cases_lt, covers_of, dot, drawn_from, false, find, get_or, get_or-eq_default, get_or-replicate-all}
+use Rattle.pac_picture.proofs.Common.{get_or-reverse, get_or-set_other, get_or-set_same, get_or-tabulate, if◌then◌else◌, is_opaque}
+use Rattle.pac_picture.proofs.Common.{kept_dot, length, length-replicate, length-reverse, length-set, length-tabulate, lines_composed}
+use Rattle.pac_picture.proofs.Common.{painted_number, picture_line, picture_of, refl, replicate, reverse, set, set-one-more, slice_index}
+use Rattle.pac_picture.proofs.Common.{source_of, sprite_at, sprite_dot, sprite_number, suc, tabulate, tabulate-is, tile_dot, tile_number}
+use Rattle.pac_picture.proofs.Common.{true, unwrap_or, zero, ℕ, ◌+◌, ◌-◌, ◌/◌, ◌<◌, ◌∙◌, ◌≡◌, ◌≢◌, ◌≤◌}
 use mathlib.Core.Logic.{inl, inr}
-use Rattle.pac_lemmas.proofs.Lists.{set-one-more, get_or-replicate-all}
-use Rattle.pac_num.specs.Tabulate.{tabulate}
-use Rattle.pac_num.proofs.Tabulated.{length-tabulate, get_or-tabulate, tabulate-is}
-use Rattle.pac_sprites.specs.declared.Sprite.{Sprite}
-use Rattle.pac_sprites.specs.Sprites.{covers_of}
-use Rattle.pac_picture.specs.Picture.{VideoRoms, VideoMemory, is_opaque, tile_number, sprite_number}
-use Rattle.pac_picture.specs.Picture.{tile_dot, sprite_at, sprite_dot, dot, picture_line}
-use Rattle.pac_picture.specs.PictureLaws.{picture_of}
-use Rattle.pac_picture.specs.Layer.{drawn_from}
-use Rattle.pac_picture.specs.LayerProofs.{kept_dot}
-use Rattle.pac_picture.specs.Painting.{painted_number}
-use Rattle.pac_picture.specs.State.{IsPicture, black}
-use Rattle.pac_picture.specs.StateLaws.{source_of}
-use Rattle.pac_picture.specs.PictureProofs.{lines_composed}
 use Rattle.pac_picture.proofs.Painted.{painted, painted-first}
 use Rattle.pac_picture.proofs.Layers.{dot-drawn}
 

@@ -1,13 +1,7 @@
 -- Places that are counted one after another, and cells that are drawn so.
-use Rattle.std.proofs.Common.{◌≡◌, ℕ, zero, suc, ◌+◌, ◌<◌, ◌≤◌, Bool, true, false, if◌then◌else◌}
-use Rattle.std.proofs.Common.{List, get_or, refl, sym, add-one, arith}
-use Rattle.std.specs.Prelude.{count_by}
-use Rattle.std.proofs.lemmas.List.Sums.{sum_by_push}
-use Rattle.std.proofs.lemmas.Bool.{eq-eqb}
+use Rattle.pac_picture.proofs.Common.{Bool, List, Shadow, add-one, arith, cell_differs, count_by, differing_cells, eq-eqb, false, get_or}
+use Rattle.pac_picture.proofs.Common.{if◌then◌else◌, refl, shadow_from, suc, sum_by_push, sym, tabulate, true, zero, ℕ, ◌+◌, ◌<◌, ◌≡◌, ◌≤◌}
 use mathlib.Core.Bool.{cond}
-use Rattle.pac_num.specs.Tabulate.{tabulate}
-use Rattle.pac_picture.specs.declared.shadow.Shadow.{Shadow}
-use Rattle.pac_picture.specs.Layer.{cell_differs, differing_cells, shadow_from}
 
 pub count-more : (test : ℕ → Bool) (count : ℕ) →
     count_by test (tabulate (suc count) (λ k. k)) ≡ count_by test (tabulate count (λ k. k)) + cond (test count) 1 0

@@ -1,19 +1,11 @@
 -- Tiles and sprites by their pixel values, and the numbers that a colour gives these.
-use Rattle.std.proofs.Common.{◌≡◌, ℕ, ◌+◌, ◌-◌, ◌*◌, ◌/◌, ◌%◌, ◌<◌, ◌≤◌, nat_lt, if◌then◌else◌, List, drop, length, get_or}
-use Rattle.std.proofs.Common.{refl, ap, ◌∙◌, arith, w8}
-use Rattle.std.proofs.lemmas.List.{get_or-take, get_or-drop}
-use Rattle.std.proofs.lemmas.Simd.{get_or-chunk, swz_l, SwzOk, SwzOk-from_below, Each1-from_get_or, get_or-swz_l_below}
-use Rattle.std.proofs.lemmas.Bool.Decides.{nat_tests}
+use Rattle.pac_picture.proofs.Common.{AreNumbersOf, ArePlaces, AreValues, Each1-from_get_or, List, SwzOk, SwzOk-from_below, VideoRoms, ap}
+use Rattle.pac_picture.proofs.Common.{arith, drop, get_or, get_or-chunk, get_or-drop, get_or-swz_l_below, get_or-tabulate, get_or-take}
+use Rattle.pac_picture.proofs.Common.{if◌then◌else◌, length, nat_lt, nat_tests, pixel_byte_index, pixel_value, pixel_value-below, refl}
+use Rattle.pac_picture.proofs.Common.{sprite_number, sprite_pixel, sprite_values, swz_l, tabulate, tabulate-is, tile_number, tile_pair}
+use Rattle.pac_picture.proofs.Common.{tile_pixel, w8, ℕ, ◌%◌, ◌*◌, ◌+◌, ◌-◌, ◌/◌, ◌<◌, ◌∙◌, ◌≡◌, ◌≤◌}
 use lib.Lanes.{chunk}
 use borrow.Rule.Slice.PartMut.{mid_of}
-use Rattle.pac_num.specs.Tabulate.{tabulate}
-use Rattle.pac_num.specs.Pixels.{pixel_value}
-use Rattle.pac_num.proofs.Tabulated.{get_or-tabulate, tabulate-is}
-use Rattle.pac_num.proofs.Pixels.{pixel_value-below}
-use Rattle.pac_tiles.specs.Tiles.{tile_pixel}
-use Rattle.pac_sprites.specs.Sprites.{sprite_pixel, pixel_byte_index}
-use Rattle.pac_picture.specs.Picture.{VideoRoms, tile_number, sprite_number}
-use Rattle.pac_picture.specs.Decoded.{tile_pair, sprite_values, ArePlaces, AreValues, AreNumbersOf}
 
 -- places in a vector of sixteen, and the lanes there
 pub swizzle-fits : (places : List ℕ) → length places ≡ 16 → ArePlaces places → SwzOk w8 16 16 0 places

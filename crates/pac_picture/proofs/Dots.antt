@@ -1,16 +1,10 @@
 -- A line of the picture, dot by dot.
-use Rattle.std.proofs.Common.{◌≡◌, ◌≢◌, ℕ, ◌+◌, ◌<◌, ◌≤◌, Bool, true, false, nat_lt}
-use Rattle.std.proofs.Common.{if◌then◌else◌, List, length, get_or, set, slice_index, refl, sym, ◌∙◌, arith}
-use Rattle.std.proofs.Common.{get_or-set_other, get_or-set_same, Some, None}
-use Rattle.std.proofs.lemmas.Bool.{cases_Bool, ltb-true, ltb-false, lt-ltb, le-ltb, and_parts, cases_eq}
-use Rattle.std.proofs.lemmas.Bool.Decides.{nat_tests}
+use Rattle.pac_picture.proofs.Common.{Bool, List, None, Some, Sprite, VideoRoms, and_parts, arith, box_place, cases_Bool, cases_eq, false}
+use Rattle.pac_picture.proofs.Common.{flipped_place, get_or, get_or-set_other, get_or-set_same, get_or-tabulate, if◌then◌else◌}
+use Rattle.pac_picture.proofs.Common.{is_column_of, is_in_box, le-ltb, length, lt-ltb, ltb-false, ltb-true, nat_lt, nat_tests, over_line}
+use Rattle.pac_picture.proofs.Common.{painted_number, refl, set, slice_index, sprite_dot, sprite_number, sym, tabulate, true, ℕ, ◌+◌, ◌<◌}
+use Rattle.pac_picture.proofs.Common.{◌∙◌, ◌≡◌, ◌≢◌, ◌≤◌}
 use mathlib.Core.Logic.{inl, inr}
-use Rattle.pac_num.specs.Tabulate.{tabulate}
-use Rattle.pac_num.proofs.Tabulated.{get_or-tabulate}
-use Rattle.pac_sprites.specs.declared.Sprite.{Sprite}
-use Rattle.pac_sprites.specs.Sprites.{is_column_of, is_in_box, box_place, flipped_place}
-use Rattle.pac_picture.specs.Picture.{VideoRoms, sprite_dot, sprite_number}
-use Rattle.pac_picture.specs.Painting.{painted_number, over_line}
 
 -- what a line of a sprite does in a column at which it shows, and in another
 line-on : (line : List ℕ) (sprite : Sprite) (x below : ℕ) → is_column_of sprite x ≡ true →

@@ -1,19 +1,10 @@
 -- The layer, row by row.
-use Rattle.std.proofs.Common.{◌≡◌, ◌≢◌, ℕ, suc, ◌+◌, ◌/◌, ◌%◌, ◌<◌, ◌≤◌, true, false, List, [], length, set, map, slice_index}
-use Rattle.std.proofs.Common.{refl, sym, ap, ◌∙◌, add-one, arith, get_or-set_other, get_or-set_same}
-use Rattle.std.specs.Prelude.{sum}
-use Rattle.std.proofs.lemmas.List.{same_lists, get_or_default, get_or-map, length-map}
-use Rattle.std.proofs.lemmas.List.Sums.{sum_by_push}
-use Rattle.std.proofs.lemmas.Bool.{true≢false}
-use Rattle.pac_lemmas.proofs.Lists.{set-one-more}
-use Rattle.pac_num.specs.Tabulate.{tabulate}
-use Rattle.pac_tiles.specs.Tiles.{offset_of}
-use Rattle.pac_num.proofs.Tabulated.{length-tabulate, get_or-tabulate, tabulate-same, tabulate-is}
-use Rattle.pac_picture.specs.declared.layer.Strip.{Strip}
-use Rattle.pac_picture.specs.declared.shadow.Shadow.{Shadow}
-use Rattle.pac_picture.specs.Picture.{VideoRoms, VideoMemory, tile_dot}
-use Rattle.pac_picture.specs.Layer.{shadow_from, shadow_at, drawn_from, cells_of, differing_in}
-use Rattle.pac_picture.specs.LayerProofs.{kept_dot, row_dot, made_stale, stale_rows, stale_row, IsDrawn, IsLayer, LayerState}
+use Rattle.pac_picture.proofs.Common.{IsDrawn, IsLayer, LayerState, List, Shadow, Strip, VideoMemory, VideoRoms, [], add-one, ap, arith}
+use Rattle.pac_picture.proofs.Common.{cells_of, differing_in, drawn_from, false, get_or-map, get_or-set_other, get_or-set_same}
+use Rattle.pac_picture.proofs.Common.{get_or-tabulate, get_or_default, kept_dot, length, length-map, length-tabulate, made_stale, map}
+use Rattle.pac_picture.proofs.Common.{offset_of, refl, row_dot, same_lists, set, set-one-more, shadow_at, shadow_from, slice_index}
+use Rattle.pac_picture.proofs.Common.{stale_row, stale_rows, suc, sum, sum_by_push, sym, tabulate, tabulate-is, tabulate-same, tile_dot}
+use Rattle.pac_picture.proofs.Common.{true, true≢false, ℕ, ◌%◌, ◌+◌, ◌/◌, ◌<◌, ◌∙◌, ◌≡◌, ◌≢◌, ◌≤◌}
 
 -- one row more that is stale
 pub made-step : (old now : List Shadow) (index : ℕ) → index < length now →

@@ -1,18 +1,14 @@
 -- Vectors compared lane by lane.
-use Rattle.std.proofs.Common.{◌≡◌, ◌≤◌, ℕ, zero, suc, ◌+◌, ◌-◌, ◌*◌, ◌/◌, ◌%◌, ◌^◌, ◌<◌, ◌==◌, Bool}
-use Rattle.std.proofs.Common.{true, false, not, List, length, refl, sym, ap, ◌∙◌, get_or, slice_index, if◌then◌else◌, arith}
-use Rattle.std.proofs.lemmas.Simd.{tops_compared, mask_l-mod, bit_mask_l, get_or-zip2, get_or-chunk, length-chunk, length-zip2}
-use Rattle.std.proofs.lemmas.Bool.{cases_lt, cases_eq, eqb-true}
-use Rattle.std.proofs.Math.Nat.{zero-div}
+use Rattle.pac_picture.proofs.Common.{Bool, List, ap, arith, bit_mask_l, cases_eq, cases_lt, cells_of, eqb-true, false, get_or}
+use Rattle.pac_picture.proofs.Common.{get_or-chunk, get_or-zip2, if◌then◌else◌, length, length-chunk, length-zip2, mask_l-mod, not}
+use Rattle.pac_picture.proofs.Common.{offset_of, refl, slice_index, suc, sym, tabulate-is, tops_compared, true, zero, zero-div, ℕ, ◌%◌, ◌*◌}
+use Rattle.pac_picture.proofs.Common.{◌+◌, ◌-◌, ◌/◌, ◌<◌, ◌==◌, ◌^◌, ◌∙◌, ◌≡◌, ◌≤◌}
 use mathlib.Core.Logic.{inl, inr}
 use lib.Lanes.{chunk, zip2, mask_l, top}
 use lib.Dec.{eqb}
 use mathlib.Core.Bool.{cond}
 use mathlib.Core.List.{map}
 use mir.Syntax.{w8}
-use Rattle.pac_num.proofs.Tabulated.{tabulate-is}
-use Rattle.pac_tiles.specs.Tiles.{offset_of}
-use Rattle.pac_picture.specs.Layer.{cells_of}
 use Rattle.pac_picture.proofs.Cells.{offset-middle}
 
 differs : ℕ → ℕ → Bool

@@ -1,10 +1,7 @@
 -- Sprites painted one over another.
-use Rattle.std.proofs.Common.{◌≡◌, ℕ, zero, suc, ◌+◌, ◌-◌, ◌<◌, Bool, true, false, if◌then◌else◌, List, [], ◌∷◌, refl, sym, ap, ◌∙◌}
-use Rattle.std.proofs.Common.{add-one, arith}
-use Rattle.std.specs.Prelude.{Some, find, unwrap_or}
-use Rattle.pac_num.specs.Tabulate.{tabulate}
-use Rattle.pac_picture.specs.Picture.{is_opaque}
-use Rattle.pac_picture.specs.Painting.{painted_number}
+use Rattle.pac_picture.proofs.Common.{Bool, List, [], add-one, ap, arith, false, find, if◌then◌else◌, is_opaque, painted_number, refl, suc}
+use Rattle.pac_picture.proofs.Common.{sym, tabulate, true, unwrap_or, zero, ℕ, ◌+◌, ◌-◌, ◌<◌, ◌∙◌, ◌∷◌, ◌≡◌}
+use Rattle.std.specs.Prelude.{Some}
 
 -- the last of eight numbers painted first, this many of them
 unfoldable pub painted : ℕ → (ℕ → ℕ) → ℕ → ℕ

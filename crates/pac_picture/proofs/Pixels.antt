@@ -1,21 +1,13 @@
 -- The pixels of bytes, lane by lane.
-use Rattle.std.proofs.Common.{◌≡◌, ℕ, zero, suc, ◌+◌, ◌-◌, ◌*◌, ◌/◌, ◌%◌, ◌^◌, ◌<◌, ◌≤◌, nat_lt, Bool, false, cond}
-use Rattle.std.proofs.Common.{List, length, get_or, map, replicate, drop}
-use Rattle.std.proofs.Common.{sym, ap, ◌∙◌, if◌then◌else◌, bit_and, arith}
-use Rattle.std.specs.Int.{bit_at}
-use Rattle.std.proofs.lemmas.Simd.{tops_compared, get_or-sel_l, length-sel_l, get_or-zip2, length-zip2, get_or-chunk, length-chunk}
-use Rattle.std.proofs.lemmas.List.{length-replicate, get_or-replicate, length-take-le, length-drop, get_or-take, get_or-drop}
-use Rattle.std.proofs.lemmas.Nat.{and_mask}
-use Rattle.std.proofs.lemmas.Nat.Bits.{and_pow, bit_at-lt}
-use Rattle.std.proofs.lemmas.Bool.Decides.{nat_tests}
+use Rattle.pac_picture.proofs.Common.{AreNumbersOf, Bool, List, and_mask, and_pow, ap, arith, bit_and, bit_at, bit_at-lt, cond, drop, false}
+use Rattle.pac_picture.proofs.Common.{get_or, get_or-chunk, get_or-drop, get_or-replicate, get_or-sel_l, get_or-tabulate, get_or-take}
+use Rattle.pac_picture.proofs.Common.{get_or-zip2, if◌then◌else◌, length, length-chunk, length-drop, length-replicate, length-sel_l}
+use Rattle.pac_picture.proofs.Common.{length-tabulate, length-take-le, length-zip2, map, nat_lt, nat_tests, pixel_value, replicate, suc}
+use Rattle.pac_picture.proofs.Common.{sym, tabulate, tops_compared, zero, ℕ, ◌%◌, ◌*◌, ◌+◌, ◌-◌, ◌/◌, ◌<◌, ◌^◌, ◌∙◌, ◌≡◌, ◌≤◌}
 use lib.Lanes.{chunk, zip2, sel_l, top}
 use borrow.Rule.Slice.PartMut.{mid_of}
 use lib.Dec.{ltb}
 use mir.Syntax.{w8}
-use Rattle.pac_num.specs.Tabulate.{tabulate}
-use Rattle.pac_num.specs.Pixels.{pixel_value}
-use Rattle.pac_num.proofs.Tabulated.{length-tabulate, get_or-tabulate}
-use Rattle.pac_picture.specs.Decoded.{AreNumbersOf}
 
 -- ---- lanes that are at most those of another vector
 

@@ -1,8 +1,6 @@
 -- Lists of one value, and how long a list by its places is.
-use Rattle.std.proofs.Common.{◌≡◌, ℕ, List, length, replicate}
-use Rattle.std.proofs.lemmas.List.{length-replicate, get_or-replicate}
-use Rattle.pac_num.specs.Tabulate.{tabulate}
-use Rattle.pac_num.proofs.Tabulated.{length-tabulate, tabulate-is}
+use Rattle.pac_picture.proofs.Common.{List, get_or-replicate, length, length-replicate, length-tabulate, replicate, tabulate, tabulate-is}
+use Rattle.pac_picture.proofs.Common.{ℕ, ◌≡◌}
 
 -- a list of one value
 pub repeated-is : {A : Type 0} (count : ℕ) (x : A) → replicate count x ≡ tabulate count (λ _. x)

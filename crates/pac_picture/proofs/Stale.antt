@@ -1,19 +1,10 @@
 -- Where all cells count as differing, all are counted.
-use Rattle.std.proofs.Common.{◌≡◌, ℕ, zero, suc, ◌+◌, ◌*◌, ◌<◌, Bool, true, List, [], length, map, refl, sym, ap, ◌∙◌, arith}
-use Rattle.std.proofs.Common.{get_or-set_other, sum}
-use Rattle.std.proofs.lemmas.Bool.{true≢false}
-use Rattle.std.specs.Prelude.{count_by}
-use Rattle.std.proofs.lemmas.List.{get_or-map, length-map}
-use Rattle.pac_num.specs.Tabulate.{tabulate}
-use Rattle.pac_picture.specs.declared.layer.Strip.{Strip}
-use Rattle.pac_picture.specs.declared.shadow.Shadow.{Shadow}
-use Rattle.pac_picture.specs.Picture.{VideoMemory, VideoRoms}
-use Rattle.pac_picture.specs.Layer.{AreStale, cells_of, cell_differs, differing_cells, differing_in, all_differing, drawn_from}
-use Rattle.pac_picture.specs.LayerProofs.{made_stale}
-use Rattle.pac_picture.specs.Layer.{shadow_at}
-use Rattle.pac_picture.specs.Layer.{shadow_from}
-use Rattle.pac_picture.specs.LayerProofs.{stale_rows, IsLayer}
-use Rattle.pac_picture.specs.Laws.{StaleCellsAreDrawn, cell_row_of}
+use Rattle.pac_picture.proofs.Common.{AreStale, Bool, IsLayer, List, Shadow, StaleCellsAreDrawn, Strip, VideoMemory, VideoRoms, []}
+use Rattle.pac_picture.proofs.Common.{all_differing, ap, arith, cell_differs, cell_row_of, cells_of, count_by, differing_cells}
+use Rattle.pac_picture.proofs.Common.{differing_in, drawn_from, get_or-map, get_or-set_other, length, length-map, made_stale, map, refl}
+use Rattle.pac_picture.proofs.Common.{shadow_at, shadow_from, stale_rows, suc, sym, tabulate, true, true≢false, zero, ℕ, ◌*◌, ◌+◌, ◌<◌, ◌∙◌}
+use Rattle.pac_picture.proofs.Common.{◌≡◌}
+use Rattle.std.proofs.Common.{sum}
 use Rattle.pac_picture.proofs.Counts.{count-more, count-none}
 use Rattle.pac_picture.proofs.Layers.{sum-more, sum-none, stale-at, length-stale}
 

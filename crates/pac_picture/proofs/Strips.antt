@@ -1,19 +1,12 @@
 -- A row of cells, line by line: what is written in it, and what two cells side by side are.
-use Rattle.std.proofs.Common.{◌≡◌, ◌≢◌, ℕ, ◌+◌, ◌-◌, ◌*◌, ◌/◌, ◌%◌, ◌<◌, ◌≤◌, ◌==◌, ◌&&◌, ◌||◌, ◌++◌, Bool, not, true, false}
-use Rattle.std.proofs.Common.{nat_le, nat_lt, if◌then◌else◌, List, [], ◌∷◌, length, get_or, slice_index, refl, sym, ap, ◌∙◌, arith}
-use Rattle.std.proofs.lemmas.Bool.{true≢false, eqb-true, cases_Bool, cases_lt, cases_eq, eq-eqb, ne_eqb, ltb-true, ltb-false, lt-ltb}
-use Rattle.std.proofs.lemmas.Bool.{le-ltb}
-use Rattle.std.proofs.lemmas.List.{get_or-map, get_or_append_left, get_or-append_right}
-use Rattle.std.proofs.lemmas.Bool.Decides.{nat_tests}
+use Rattle.pac_picture.proofs.Common.{AreDrawn, AreLike, Bool, IsDrawn, IsTwin, List, Shadow, VideoRoms, [], ap, arith, beside, cases_Bool}
+use Rattle.pac_picture.proofs.Common.{cases_eq, cases_lt, cell_differs, eq-eqb, eqb-true, false, get_or, get_or-append_right, get_or-map}
+use Rattle.pac_picture.proofs.Common.{get_or-tabulate, get_or_append_left, has_marked, if◌then◌else◌, kept_dot, le-ltb, length}
+use Rattle.pac_picture.proofs.Common.{length-tabulate, lt-ltb, ltb-false, ltb-true, nat_le, nat_lt, nat_tests, ne_eqb, not, pattern_dot}
+use Rattle.pac_picture.proofs.Common.{refl, row_dot, shadow_from, slice_index, sym, tabulate, tile_number, tile_pairs, true, true≢false}
+use Rattle.pac_picture.proofs.Common.{twin_dot, ℕ, ◌%◌, ◌&&◌, ◌*◌, ◌++◌, ◌+◌, ◌-◌, ◌/◌, ◌<◌, ◌==◌, ◌||◌, ◌∙◌, ◌∷◌, ◌≡◌, ◌≢◌, ◌≤◌}
 use mathlib.Core.Logic.{inl, inr}
 use lib.Lanes.{pick_l}
-use Rattle.pac_num.specs.Tabulate.{tabulate}
-use Rattle.pac_num.proofs.Tabulated.{length-tabulate, get_or-tabulate}
-use Rattle.pac_picture.specs.declared.shadow.Shadow.{Shadow}
-use Rattle.pac_picture.specs.Picture.{VideoRoms, tile_number}
-use Rattle.pac_picture.specs.Layer.{shadow_from, cell_differs}
-use Rattle.pac_picture.specs.LayerProofs.{kept_dot, row_dot, IsDrawn}
-use Rattle.pac_picture.specs.Strips.{tile_pairs, pattern_dot, beside, twin_dot, has_marked, AreDrawn, AreLike, IsTwin}
 
 -- ---- two cells side by side
 

@@ -1,8 +1,5 @@
 -- What is read, or isn't, in a form of several parts.
-use Rattle.std.proofs.Common.{◌≡◌, Option, Result, Err, rules}
-use Rattle.std.specs.Prelude.{option_and_then}
-use Rattle.pac_roms_manifest.specs.Results.{ReadsValue, ReadsAs}
-use Rattle.pac_roms_manifest.specs.declared.reading.Misread.{Misread}
+use Rattle.pac_roms_manifest.proofs.Common.{Err, Misread, Option, ReadsAs, ReadsValue, Result, option_and_then, rules, ◌≡◌}
 
 -- a part that isn't read leaves the whole unread
 pub unread : {A B : Type 0} (result : Result B Misread) (told why : Misread) (form : Option A) (more : A → Option B) → result ≡ Err told

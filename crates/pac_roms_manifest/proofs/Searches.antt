@@ -1,15 +1,8 @@
 -- Searches over all parts: what they say of each, and how far a loop over them has come.
-use Rattle.std.proofs.Common.{◌≡◌, ℕ, ◌+◌, ◌<◌, Bool, false, List, [], ◌∷◌, ◌++◌, length, get_or, drop, zero, suc, rules}
-use Rattle.std.proofs.Common.{Option, Some, None, Bor, map, refl, ◌∙◌, arith}
-use Rattle.std.specs.Prelude.{option_copied}
-use Rattle.std.specs.List.{cons_option}
-use Rattle.std.proofs.lemmas.List.{at_drop_more, map-append, append-nil}
-use Rattle.pac_lemmas.proofs.Options.{both-none}
-use Rattle.pac_roms_manifest.specs.Manifests.{entry_of_part}
-use Rattle.pac_roms_manifest.specs.Parts.{parts_in_order}
-use Rattle.pac_roms_manifest.specs.Sets.{first_answer, is_unnamed, unnamed_fault}
-use Rattle.pac_roms_manifest.specs.declared.manifest.Manifest.{Manifest}
-use Rattle.pac_roms_manifest.specs.declared.part.PartName.{PartName}
+use Rattle.pac_roms_manifest.proofs.Common.{Bool, Bor, List, Manifest, None, Option, PartName, Some, [], append-nil, arith, at_drop_more}
+use Rattle.pac_roms_manifest.proofs.Common.{both-none, cons_option, drop, entry_of_part, false, first_answer, get_or, is_unnamed, length}
+use Rattle.pac_roms_manifest.proofs.Common.{map, map-append, option_copied, parts_in_order, refl, rules, suc, unnamed_fault, zero, ℕ, ◌++◌}
+use Rattle.pac_roms_manifest.proofs.Common.{◌+◌, ◌<◌, ◌∙◌, ◌∷◌, ◌≡◌}
 
 -- a question without an answer has none at any element
 nowhere : {A B : Type 0} (question : A → Option B) (xs : List A) (n : ℕ) (d : A) → n < length xs → first_answer question xs ≡ None

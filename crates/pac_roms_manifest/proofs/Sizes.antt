@@ -1,18 +1,9 @@
 -- Where a part has to be there and none of its faults is found, its file has the part's size.
-use Rattle.std.proofs.Common.{◌≡◌, ℕ, Bool, true, false, List, [], length, arith, rules, Option, None, option_map, is_some, IfSome, Bor}
-use Rattle.std.specs.Prelude.{unwrap_or, option_copied}
-use Rattle.pac_lemmas.proofs.Options.{none-parts}
-use Rattle.pac_roms.specs.Parts.{program_size}
-use Rattle.std.proofs.lemmas.List.{length-append}
-use Rattle.pac_roms_manifest.specs.Entries.{PlainEntry}
-use Rattle.pac_roms_manifest.specs.Manifests.{◌>>=◌, entry_of_part}
-use Rattle.pac_roms_manifest.specs.Parts.{parts_in_order, rom_part_size}
-use Rattle.pac_roms_manifest.specs.Sets.{first_answer, needs_table, is_unnamed, unnamed_fault, code_of_part, file_fault, bytes_named}
-use Rattle.pac_roms_manifest.specs.Sets.{rom_part_bytes, program_bytes, fault_at}
-use Rattle.pac_roms_manifest.specs.declared.fault.ManifestCode.TheVariants.{Unnamed}
-use Rattle.pac_roms_manifest.specs.declared.manifest.Manifest.{Manifest}
-use Rattle.pac_roms_manifest.specs.declared.part.Part.{Part}
-use Rattle.pac_roms_manifest.specs.declared.part.PartName.{PartName}
+use Rattle.pac_roms_manifest.proofs.Common.{Bool, Bor, IfSome, List, Manifest, None, Option, Part, PartName, PlainEntry, Unnamed, [], arith}
+use Rattle.pac_roms_manifest.proofs.Common.{bytes_named, code_of_part, entry_of_part, false, fault_at, file_fault, first_answer, is_some}
+use Rattle.pac_roms_manifest.proofs.Common.{is_unnamed, length, length-append, needs_table, none-parts, option_copied, option_map}
+use Rattle.pac_roms_manifest.proofs.Common.{parts_in_order, program_bytes, program_size, rom_part_bytes, rom_part_size, rules, true}
+use Rattle.pac_roms_manifest.proofs.Common.{unnamed_fault, unwrap_or, ℕ, ◌>>=◌, ◌≡◌}
 use Rattle.pac_roms_manifest.proofs.Searches.{nothing_at}
 
 -- and so has the file of a part's entry

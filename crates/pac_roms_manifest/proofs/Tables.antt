@@ -1,11 +1,6 @@
 -- The tables of the program's ROMs, by how many there are.
-use Rattle.std.proofs.lemmas.Grind.{common_steps}
-use Rattle.std.proofs.Common.{◌≡◌, ◌≤◌, ◌<◌, ◌⊎◌, List, [], ◌∷◌, length, get_or, Option, Some, None, refl, inl, inr, arith}
-use Rattle.toml.specs.Data.{Data, array}
-use Rattle.toml.specs.View.{view, items_view}
-use Rattle.toml.specs.declared.value.Value.{Value}
-use Rattle.pac_roms_manifest.specs.Entries.{PlainEntry}
-use Rattle.pac_roms_manifest.specs.Manifests.{◌>>=◌, entry_form, program_form}
+use Rattle.pac_roms_manifest.proofs.Common.{Data, List, None, Option, PlainEntry, Some, Value, [], arith, array, common_steps, entry_form}
+use Rattle.pac_roms_manifest.proofs.Common.{get_or, inl, inr, items_view, length, program_form, refl, view, ◌<◌, ◌>>=◌, ◌∷◌, ◌≡◌, ◌≤◌, ◌⊎◌}
 
 -- what four tables are
 abbrev pub four_forms : Data → Data → Data → Data → Option (List PlainEntry)

@@ -1,11 +1,6 @@
 -- A document's table, by what its reader says of it.
-use Rattle.std.proofs.Common.{◌≡◌, ℕ, List, Some, None, arith}
-use Rattle.std.specs.Prelude.{IsUtf8}
-use Rattle.std.proofs.lemmas.Bool.{cases_Bool}
-use Rattle.std.proofs.lemmas.Str.{IsUtf8-from_is_utf8, is_utf8-from_IsUtf8}
-use Rattle.toml.specs.Data.{Members}
-use Rattle.toml.specs.Parse.{parse_document}
-use Rattle.pac_roms_manifest.specs.Manifests.{document_table}
+use Rattle.pac_roms_manifest.proofs.Common.{IsUtf8, IsUtf8-from_is_utf8, List, Members, None, Some, arith, cases_Bool, document_table}
+use Rattle.pac_roms_manifest.proofs.Common.{is_utf8-from_IsUtf8, parse_document, ℕ, ◌≡◌}
 
 pub tree_found : (text : List ℕ) (tree : Members) → IsUtf8 text → parse_document text ≡ Some tree → document_table text ≡ Some tree
 tree_found text tree utf8 found = rw (is_utf8-from_IsUtf8 text utf8) found

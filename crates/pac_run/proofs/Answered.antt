@@ -1,26 +1,11 @@
 -- The answers of a run, one by one.
-use Rattle.std.proofs.Common.{◌≡◌, ℕ, List, Option, None, Result, Ok, Err, subst, arith, rules}
-use Rattle.pac_board_course.specs.Course.{CourseValue}
-use Rattle.pac_board_course.specs.State.{BoardState, BoardValue}
-use Rattle.pac_board_course.specs.Stretch.{Stretch}
-use Rattle.pac_board_course.specs.Stretches.{total_frames}
-use Rattle.pac_board_course.specs.ScriptFault.{ScriptFault}
-use Rattle.pac_asm.specs.Assembled.{Assembled}
+use Rattle.pac_run.proofs.Common.{Assembled, BoardState, BoardValue, CourseValue, Err, IsFirstBoard, IsUnwritten, List, None}
+use Rattle.pac_run.proofs.Common.{NothingWritten, Ok, Option, Outcome, Plan, Prepares, Result, Resumes, RunContents, RunEnd, RunFault}
+use Rattle.pac_run.proofs.Common.{RunInputs, Runs, RunsTo, ScriptFault, StopsInText, Stretch, TakesText, WritesPlay, WritesRun, Writing}
+use Rattle.pac_run.proofs.Common.{Writings, arith, contents_from, course_contents, course_playing, end_state, plan_of, played, rules}
+use Rattle.pac_run.proofs.Common.{run_from, save_text, script_told, subst, total_frames, written_version, ℕ, ◌≡◌}
 use Rattle.pac_run.specs.declared.fault.Output.TheVariants as which
-use Rattle.pac_run.specs.declared.fault.RunFault.{RunFault}
 use Rattle.pac_run.specs.declared.fault.RunFault.TheVariants as fault
-use Rattle.pac_run.specs.declared.inputs.RunInputs.{RunInputs}
-use Rattle.pac_board_course.specs.declared.outcome.Outcome.{Outcome}
-use Rattle.pac_run.specs.Plan.{Plan, plan_of}
-use Rattle.pac_run.specs.PlanProofs.{script_told}
-use Rattle.pac_run.specs.declared.run.RunEnd.{RunEnd}
-use Rattle.pac_run.specs.Playing.{course_playing, played}
-use Rattle.pac_run.specs.Recorded.{RunsTo, WritesPlay, WritesRun, course_contents}
-use Rattle.pac_run.specs.Resumes.{Resumes, contents_from, end_state, run_from}
-use Rattle.pac_run.specs.Run.{Writing, Writings, RunContents, IsUnwritten, TakesText, StopsInText, NothingWritten, Runs}
-use Rattle.pac_run.specs.Start.{IsFirstBoard}
-use Rattle.pac_run.specs.Started.{Prepares}
-use Rattle.pac_state.specs.Text.{save_text, written_version}
 
 -- ---- judging tells of no refused write and of no state
 

@@ -1,21 +1,9 @@
 -- A board with which a run begins: nothing is due, and its frames fit.
-use Rattle.std.proofs.Common.{◌≡◌, ℕ, ◌≤◌, ◌+◌, ◌*◌, ◌/◌, nat_le, arith, Err, rules, Bool, true, not, ◌&&◌, if◌then◌else◌, List, Option}
-use Rattle.std.proofs.Common.{None, Some, refl, sym, subst}
-use Rattle.std.proofs.lemmas.Bool.Decides.{nat_tests}
-use Rattle.pac_board_course.specs.Course.{frame_microseconds}
-use Rattle.pac_board_course.specs.State.{BoardState, BoardValue, latest, most_asked, power_on_board}
-use Rattle.pac_board_course.specs.Step.{frame_ticks}
-use Rattle.pac_board_course.specs.Stretch.{Stretch}
-use Rattle.pac_board_course.specs.Stretches.{most_frames, total_frames}
-use Rattle.pac_board_course.specs.RomParts.{Parts}
-use Rattle.pac_board_course.proofs.Agreed.{power-on-board}
-use Rattle.pac_state.specs.Files.{IsFile, IsState, board_of_file}
-use Rattle.pac_state.specs.Saved.{RefusesFile}
-use Rattle.pac_state.specs.declared.fault.LoadFault.{LoadFault}
-use Rattle.pac_run.specs.declared.fault.StateFault.{StateFault}
-use Rattle.pac_run.specs.declared.fault.StateFault.TheVariants.{Midst, Limit}
-use Rattle.pac_run.specs.Start.{IsFirstBoard, IsResumable, RefusesBytes, has_room, is_between_frames, start_fault}
-use Rattle.pac_run.specs.Started.{IsStarted, StartsWith, refusal_told}
+use Rattle.pac_run.proofs.Common.{BoardState, BoardValue, Bool, Err, IsFile, IsFirstBoard, IsResumable, IsStarted, IsState, Limit, List}
+use Rattle.pac_run.proofs.Common.{LoadFault, Midst, None, Option, Parts, RefusesBytes, RefusesFile, Some, StartsWith, StateFault, Stretch}
+use Rattle.pac_run.proofs.Common.{arith, board_of_file, frame_microseconds, frame_ticks, has_room, if◌then◌else◌, is_between_frames, latest}
+use Rattle.pac_run.proofs.Common.{most_asked, most_frames, nat_le, nat_tests, not, power-on-board, power_on_board, refl, refusal_told}
+use Rattle.pac_run.proofs.Common.{rules, start_fault, subst, sym, total_frames, true, ℕ, ◌&&◌, ◌*◌, ◌+◌, ◌/◌, ◌≡◌, ◌≤◌}
 
 -- ---- where nothing keeps a run from beginning
 

@@ -1,28 +1,15 @@
 -- What a film and a wave file have where one of them refused, and what a player's run comes to then.
-use Rattle.std.proofs.lemmas.Grind.{common_steps}
-use Rattle.std.proofs.Common.{◌≡◌, ℕ, ℤ, pos, ◌+◌, ◌-◌, ◌≤◌, ◌<◌, List, [], ◌∷◌, ◌++◌, length, replicate, rules, Some, Result, Ok, Err, inl}
-use Rattle.std.proofs.Common.{inr, refl, sym, ap, subst, ◌∙◌, append_assoc, append-nil, length-append, arith}
-use Rattle.std.specs.Prelude.{IfSome}
+use Rattle.pac_run.proofs.Common.{Cut, Err, Film, FinishesSound, FramesStop, HasBegun, HasSoundOf, HasStopped, IfSome, Image, Joins, List}
+use Rattle.pac_run.proofs.Common.{Ok, Output, OutputFault, Reel, RefusedImage, RefusedSound, Result, Show, Some, Sound, SoundFails, Stops}
+use Rattle.pac_run.proofs.Common.{StopsAfter, WaveStops, WriteFault, [], ap, append-nil, append_assoc, arith, common_steps, film_giving}
+use Rattle.pac_run.proofs.Common.{film_refused, header_size, heard_by, image_bytes, images_text, inl, inr, length, length-append}
+use Rattle.pac_run.proofs.Common.{outputs_before, pos, refl, replicate, rules, sample_bytes, sample_text, samples_in, samples_text}
+use Rattle.pac_run.proofs.Common.{shown_before, shown_by, stops-after, stops-within, subst, sym, wave_file_text, wave_so_far, writing, ℕ, ℤ}
+use Rattle.pac_run.proofs.Common.{◌++◌, ◌+◌, ◌-◌, ◌<◌, ◌∙◌, ◌∷◌, ◌≡◌, ◌≤◌}
 use mathlib.Core.List.{IsPrefix}
-use Rattle.pac_media.specs.CountedProofs.{Stops}
-use Rattle.pac_media.specs.CountedLaws.{HasStopped}
-use Rattle.pac_media.specs.WriteFault.{WriteFault}
-use Rattle.pac_media.specs.Writes.{StopsAfter}
-use Rattle.pac_media.proofs.Files.{Joins, stops-after, stops-within}
-use Rattle.pac_media.specs.Samples.{header_size, sample_text, samples_text}
-use Rattle.pac_media.specs.Sound.{SoundFails, FinishesSound}
 use Rattle.pac_media.specs.Sound as media
-use Rattle.pac_board_course.specs.Output.{Output, Image, Sound, Show}
-use Rattle.pac_board_course.specs.SinksLaws.{Cut}
-use Rattle.pac_run.specs.declared.fault.OutputFault.{OutputFault}
 use Rattle.pac_run.specs.declared.fault.Output.{Output as Which}
 use Rattle.pac_run.specs.declared.fault.Output.TheVariants as which
-use Rattle.pac_run.specs.declared.film.Film.{Film}
-use Rattle.pac_run.specs.Films.{film_refused, film_giving, RefusedSound, RefusedImage}
-use Rattle.pac_run.specs.Recorded.{HasBegun, Reel, heard_by, shown_by}
-use Rattle.pac_run.specs.Run.{FramesStop, WaveStops, outputs_before, shown_before, writing}
-use Rattle.pac_run.specs.Texts.{image_bytes, sample_bytes, samples_in, images_text, wave_file_text, wave_so_far}
-use Rattle.pac_run.specs.Watched.{HasSoundOf}
 use Rattle.pac_run.proofs.Heard.{IsHeard, ends-there, frames-append, heard-images, is-heard, is-shown, size}
 use Rattle.pac_run.proofs.Filmed.{Filmed, filmed, wave-long, wave-whole, zeros, zeros-last}
 

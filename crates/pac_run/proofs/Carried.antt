@@ -1,17 +1,10 @@
 -- What a run leaves of writers that are lent, it leaves of their owners.
-use Rattle.std.proofs.Common.{ℕ, List, Option, Result, Ok, Err, arith, rules}
-use Rattle.std.specs.Str.Lines.{lines}
-use Rattle.pac_board_course.specs.State.{BoardValue}
-use Rattle.pac_board_course.specs.declared.outcome.Outcome.{Outcome}
+use Rattle.pac_run.proofs.Common.{BoardValue, Debugs, Err, IsBrokenAt, IsCutAt, IsRunWhole, IsSaveCutAt, List, NothingWritten, Ok, Option}
+use Rattle.pac_run.proofs.Common.{Outcome, Plan, Result, Resumes, RunContents, RunFault, RunInputs, Runs, Writing, Writings, arith}
+use Rattle.pac_run.proofs.Common.{contents_from, contents_of, lines, rules, setting_of_plan, ℕ}
 use Rattle.pac_run.specs.declared.fault.Output.{Output as Which}
 use Rattle.pac_run.specs.declared.fault.Output.TheVariants as which
-use Rattle.pac_run.specs.declared.fault.RunFault.{RunFault}
 use Rattle.pac_run.specs.declared.fault.RunFault.TheVariants as fault
-use Rattle.pac_run.specs.declared.inputs.RunInputs.{RunInputs}
-use Rattle.pac_run.specs.Debugs.{Debugs, IsBrokenAt, setting_of_plan}
-use Rattle.pac_run.specs.Plan.{Plan}
-use Rattle.pac_run.specs.Resumes.{IsSaveCutAt, Resumes, contents_from}
-use Rattle.pac_run.specs.Run.{Writing, Writings, RunContents, NothingWritten, Runs, IsCutAt, IsRunWhole, contents_of}
 use Rattle.pac_run.proofs.Lent.{Carries, text-stops, frames-stop, wave-stops, told-till, told-at-wave, line-untold}
 
 module _ {F G W V L K R Q : Type 0} (to : Writings F W L R) (other : Writings G V K Q) (shows : Carries to.frames other.frames)

@@ -1,32 +1,12 @@
 -- Of two plays, the run of the first, saved, and that of the second, resumed from what was saved, are the run of both.
-use Rattle.std.proofs.Common.{◌≡◌, ℕ, ◌+◌, ◌-◌, ◌*◌, ◌%◌, ◌<◌, ◌≤◌, zero, suc, nat_le, arith, rules, Bool, true, List, [], ◌∷◌, ◌++◌}
-use Rattle.std.proofs.Common.{length, Option, None, refl, sym, ap, ◌∙◌, length-append}
-use Rattle.std.proofs.lemmas.Bool.Decides.{nat_tests}
-use Rattle.pac_asm.specs.PlacedItems.{Item, AllLie}
-use Rattle.pac_board_course.specs.BoardView.{BoardView, IsBoard}
-use Rattle.pac_board_course.specs.Carried.{walk_view}
-use Rattle.pac_board_course.specs.Course.{frame_microseconds}
-use Rattle.pac_board_course.specs.Entry.{Entry}
-use Rattle.pac_board_course.specs.History.{board_after_entries}
-use Rattle.pac_board_course.specs.ModelLaws.{IsTimely}
-use Rattle.pac_board_course.specs.Step.{frame_samples, Moment, Next, frame_ticks, sample_ticks}
-use Rattle.pac_board_course.specs.Output.{Output, Sound, Show, picture_count, sound_count}
-use Rattle.pac_board_course.specs.Resumed.{HasItsFrames, JoinsPlays}
-use Rattle.pac_board_course.specs.RomParts.{Parts, IsWhole}
-use Rattle.pac_board_course.specs.State.{BoardState, BoardValue}
-use Rattle.pac_board_course.specs.Stop.{Stop}
-use Rattle.pac_board_course.specs.Trace.{Play, by_history, by_view, frames_gone, resumed, resumed_end, resumed_start, resumed_step}
-use Rattle.pac_board_course.specs.TraceLaws.{plays_joined}
-use Rattle.pac_board_course.specs.Walk.{Walk, onward_if, walk}
-use Rattle.pac_board_course.proofs.Agreed.{resumed-runs-agree}
-use Rattle.pac_board_course.proofs.Resumed.{plays-join}
-use Rattle.pac_board_course.proofs.ResumedTimes.{resumed-runs-have-their-frames}
-use Rattle.pac_board_course.proofs.Walks.{play-timely}
-use Rattle.pac_media.specs.Samples.{samples_text}
-use Rattle.pac_run.specs.Parts.{outcomes_joined}
-use Rattle.pac_run.specs.Resumes.{end_state, frames_asked, outcome_since, run_of_play, without_history}
-use Rattle.pac_run.specs.Start.{is_between_frames}
-use Rattle.pac_run.specs.Texts.{images_text, samples_in, sound_text}
+use Rattle.pac_run.proofs.Common.{AllLie, BoardState, BoardValue, BoardView, Bool, Entry, HasItsFrames, IsBoard, IsTimely, IsWhole, Item}
+use Rattle.pac_run.proofs.Common.{JoinsPlays, List, Moment, Next, None, Option, Output, Parts, Play, Show, Sound, Stop, Walk, [], ap, arith}
+use Rattle.pac_run.proofs.Common.{board_after_entries, by_history, by_view, end_state, frame_microseconds, frame_samples, frame_ticks}
+use Rattle.pac_run.proofs.Common.{frames_asked, frames_gone, images_text, is_between_frames, length, length-append, nat_le, nat_tests}
+use Rattle.pac_run.proofs.Common.{onward_if, outcome_since, outcomes_joined, picture_count, play-timely, plays-join, plays_joined, refl}
+use Rattle.pac_run.proofs.Common.{resumed, resumed-runs-agree, resumed-runs-have-their-frames, resumed_end, resumed_start, resumed_step}
+use Rattle.pac_run.proofs.Common.{rules, run_of_play, sample_ticks, samples_in, samples_text, sound_count, sound_text, suc, sym, true, walk}
+use Rattle.pac_run.proofs.Common.{walk_view, without_history, zero, ℕ, ◌%◌, ◌*◌, ◌++◌, ◌+◌, ◌-◌, ◌<◌, ◌∙◌, ◌∷◌, ◌≡◌, ◌≤◌}
 use Rattle.pac_run.proofs.Filmed.{samples-append, sound-append}
 use Rattle.pac_run.proofs.Heard.{frames-append, pictures-counted}
 

@@ -1,26 +1,12 @@
 -- The answers of a run under a debugger, one by one.
-use Rattle.std.proofs.Common.{◌≡◌, ℕ, List, Option, None, Result, Ok, Err, sym, subst, arith, rules}
-use Rattle.std.specs.Str.Lines.{lines}
-use Rattle.pac_asm.specs.Assembled.{Assembled}
-use Rattle.pac_board_course.specs.Output.{Output}
-use Rattle.pac_board_course.specs.declared.outcome.Outcome.{Outcome}
-use Rattle.pac_debug.specs.MotionsLaws.{IsOutcome}
-use Rattle.pac_debug.specs.Running.{Setting}
-use Rattle.pac_debug.specs.Session.{SessionValue, session_at_start}
+use Rattle.pac_run.proofs.Common.{Assembled, Debugs, Err, IsBrokenAt, IsOutcome, IsPrepared, IsReady, IsRunWhole, IsUntold, IsUnwritten}
+use Rattle.pac_run.proofs.Common.{List, None, NothingWritten, Ok, Option, Outcome, Output, Plan, Played, Prepared, Prepares, Result}
+use Rattle.pac_run.proofs.Common.{RunFault, RunInputs, SessionValue, Setting, TextBreaks, ToldAtWave, WaveBreaks, WritesPlay, Writing}
+use Rattle.pac_run.proofs.Common.{Writings, arith, contents_of, lines, plan_with, rules, session_at_start, session_played, setting_of_plan}
+use Rattle.pac_run.proofs.Common.{subst, sym, told_played, trace_of, ℕ, ◌≡◌}
 use Rattle.pac_run.specs.declared.fault.Output.{Output as Which}
 use Rattle.pac_run.specs.declared.fault.Output.TheVariants as which
-use Rattle.pac_run.specs.declared.fault.RunFault.{RunFault}
 use Rattle.pac_run.specs.declared.fault.RunFault.TheVariants as fault
-use Rattle.pac_run.specs.declared.inputs.RunInputs.{RunInputs}
-use Rattle.pac_run.specs.declared.plan.Prepared.{Prepared}
-use Rattle.pac_run.specs.DebugsProofs.{IsReady}
-use Rattle.pac_run.specs.Debugs.{Debugs, IsBrokenAt, IsUntold, setting_of_plan}
-use Rattle.pac_run.specs.Plan.{Plan, plan_with}
-use Rattle.pac_run.specs.Playing.{Played, session_played, told_played}
-use Rattle.pac_run.specs.Recorded.{TextBreaks, WaveBreaks, WritesPlay}
-use Rattle.pac_run.specs.Started.{IsPrepared, Prepares}
-use Rattle.pac_run.specs.Run.{Writing, Writings, IsUnwritten, NothingWritten, IsRunWhole, contents_of, trace_of}
-use Rattle.pac_run.specs.Watched.{ToldAtWave}
 use Rattle.pac_run.proofs.Answered.{NoWrite, plan-writes}
 use Rattle.pac_run.proofs.Traced.{session-outputs, session-outcome, seen-through, same-setting}
 

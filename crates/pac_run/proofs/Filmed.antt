@@ -1,20 +1,9 @@
 -- What a film and a wave file have after the outputs of a list.
-use Rattle.std.proofs.Common.{◌≡◌, ℕ, ℤ, pos, ◌+◌, ◌-◌, ◌*◌, ◌≤◌, List, [], ◌∷◌, ◌++◌, length, replicate, rules}
-use Rattle.std.proofs.Common.{refl, sym, ap, subst, ◌∙◌, append_assoc, append-nil, length-append, arith}
-use Rattle.std.proofs.lemmas.Grind.{flat_map-append}
-use Rattle.std.specs.List.{flat_map}
-use Rattle.pac_media.specs.CountedLaws.{HasTaken}
-use Rattle.pac_media.specs.CountedFile.{Counted}
-use Rattle.pac_media.specs.Samples.{header_size, sample_text, samples_text, wav_header}
-use Rattle.pac_media.specs.Sound.{HasText}
-use Rattle.pac_board_course.specs.Step.{frame_samples}
-use Rattle.pac_board_course.specs.Output.{Output, Image, Sound, Show, picture_count}
-use Rattle.pac_board_course.specs.Sinks.{TookAll}
-use Rattle.pac_run.specs.declared.film.Film.{Film}
-use Rattle.pac_run.specs.Films.{film_took, TookSample, TookImage}
-use Rattle.pac_run.specs.Recorded.{HasBegun, Reel}
-use Rattle.pac_run.specs.Run.{outputs_before}
-use Rattle.pac_run.specs.Texts.{image_bytes, sample_bytes, samples_in, images_text, sound_text, wave_file_text, wave_so_far}
+use Rattle.pac_run.proofs.Common.{Counted, Film, HasBegun, HasTaken, HasText, Image, List, Output, Reel, Show, Sound, TookAll, TookImage}
+use Rattle.pac_run.proofs.Common.{TookSample, [], ap, append-nil, append_assoc, arith, film_took, flat_map, flat_map-append, frame_samples}
+use Rattle.pac_run.proofs.Common.{header_size, image_bytes, images_text, length, length-append, outputs_before, picture_count, pos, refl}
+use Rattle.pac_run.proofs.Common.{replicate, rules, sample_bytes, sample_text, samples_in, samples_text, sound_text, subst, sym, wav_header}
+use Rattle.pac_run.proofs.Common.{wave_file_text, wave_so_far, ℕ, ℤ, ◌*◌, ◌++◌, ◌+◌, ◌-◌, ◌∙◌, ◌∷◌, ◌≡◌, ◌≤◌}
 use Rattle.pac_run.proofs.Heard.{all-before, frames-append, pictures-counted, samples-add-none, size, sound-bytes}
 
 -- ---- texts of lists that are put together

@@ -1,13 +1,8 @@
 -- What comes before a byte among outputs: all of a first part and something of a second, or something of the first.
-use Rattle.std.proofs.Common.{◌≡◌, ℕ, ◌+◌, ◌-◌, ◌<◌, ◌≤◌, nat_le, Bool, true, false, if◌then◌else◌, List, [], ◌∷◌, ◌++◌, length, rules}
-use Rattle.std.proofs.Common.{refl, sym, ap, ◌∙◌, append-nil, length-append, arith}
-use Rattle.std.proofs.lemmas.Bool.Decides.{nat_tests}
-use Rattle.std.proofs.lemmas.Grind.{flat_map-append}
-use Rattle.std.specs.List.{flat_map}
-use Rattle.pac_media.specs.Samples.{sample_text, samples_text}
-use Rattle.pac_board_course.specs.Output.{Output, Sound, Show, picture_count}
-use Rattle.pac_run.specs.Run.{outputs_before}
-use Rattle.pac_run.specs.Texts.{image_bytes, sample_bytes, samples_in, images_text}
+use Rattle.pac_run.proofs.Common.{Bool, List, Output, Show, Sound, [], ap, append-nil, arith, false, flat_map, flat_map-append}
+use Rattle.pac_run.proofs.Common.{if◌then◌else◌, image_bytes, images_text, length, length-append, nat_le, nat_tests, outputs_before}
+use Rattle.pac_run.proofs.Common.{picture_count, refl, rules, sample_bytes, sample_text, samples_in, samples_text, sym, true, ℕ, ◌++◌, ◌+◌}
+use Rattle.pac_run.proofs.Common.{◌-◌, ◌<◌, ◌∙◌, ◌∷◌, ◌≡◌, ◌≤◌}
 
 -- ---- counts and texts of lists that are put together
 

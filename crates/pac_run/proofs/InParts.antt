@@ -1,36 +1,13 @@
 -- A plan's run whose end was saved, and that goes on from the file, is the run of both scripts at once.
-use Rattle.std.proofs.Common.{◌≡◌, ℕ, ◌+◌, ◌-◌, ◌*◌, ◌/◌, ◌≤◌, arith, List, [], ◌++◌, Option, None, Some, rules}
-use Rattle.std.proofs.Common.{Bool, true, not, ◌&&◌, if◌then◌else◌, refl, sym, ap, subst, ◌∙◌}
-use Rattle.std.proofs.lemmas.Bool.{le-leb}
-use Rattle.pac_board_course.specs.BoardView.{IsBoard, power_on_board_view}
-use Rattle.pac_board_course.specs.Course.{frame_microseconds}
-use Rattle.pac_board_course.specs.Entry.{Entry}
-use Rattle.pac_board_course.specs.Output.{picture_count}
-use Rattle.pac_board_course.specs.Shown.{blank_count}
-use Rattle.pac_board_course.specs.RomParts.{Parts}
-use Rattle.pac_board_course.specs.State.{BoardValue, latest, most_asked, power_on_board}
-use Rattle.pac_board_course.specs.Step.{frame_ticks}
-use Rattle.pac_board_course.specs.Stop.{Stop}
-use Rattle.pac_board_course.specs.Stretch.{Stretch}
-use Rattle.pac_board_course.specs.Stretches.{total_frames}
-use Rattle.pac_board_course.specs.Trace.{Play, by_history, frames_gone, frame_steps}
-use Rattle.pac_board_course.specs.TraceLaws.{plays_joined}
-use Rattle.pac_board_course.specs.Walk.{Walk}
-use Rattle.pac_board_course.proofs.Outputs.{outputs-timed}
-use Rattle.pac_board_course.proofs.Resumed.{resumed-runs-end, runs-begin, stopped-runs-stay}
-use Rattle.pac_board_course.proofs.ResumedTimes.{resumed-runs-are-timed}
-use Rattle.pac_debug.specs.Running.{play_of}
-use Rattle.pac_state.specs.Files.{IsFile, board_of_file}
-use Rattle.pac_state.specs.Text.{written_version}
-use Rattle.pac_state.proofs.Files.{text-board}
-use Rattle.pac_run.specs.Parts.{AreOneRun, JoinsFirst, RunsInParts, StoppedBefore, saved_board, with_script}
-use Rattle.pac_run.specs.Plan.{Plan}
-use Rattle.pac_run.specs.declared.fault.StateFault.{StateFault}
-use Rattle.pac_run.specs.declared.fault.StateFault.TheVariants.{Midst, Limit}
-use Rattle.pac_run.specs.Resumes.{IsInOrder, contents_from, end_state, last_state, outcome_since, resumed_of, run_from}
-use Rattle.pac_run.specs.Resumes.{run_of_play, state_text, without_history}
-use Rattle.pac_run.specs.Run.{RunContents, outcome_of, trace_of}
-use Rattle.pac_run.specs.Start.{IsFirstBoard, has_room, is_between_frames, start_fault}
+use Rattle.pac_run.proofs.Common.{AreOneRun, BoardValue, Bool, Entry, IsBoard, IsFile, IsFirstBoard, IsInOrder, JoinsFirst, Limit, List}
+use Rattle.pac_run.proofs.Common.{Midst, None, Option, Parts, Plan, Play, RunContents, RunsInParts, Some, StateFault, Stop, StoppedBefore}
+use Rattle.pac_run.proofs.Common.{Stretch, Walk, [], ap, arith, blank_count, board_of_file, by_history, contents_from, end_state}
+use Rattle.pac_run.proofs.Common.{frame_microseconds, frame_steps, frame_ticks, frames_gone, has_room, if◌then◌else◌, is_between_frames}
+use Rattle.pac_run.proofs.Common.{last_state, latest, le-leb, most_asked, not, outcome_of, outcome_since, outputs-timed, picture_count}
+use Rattle.pac_run.proofs.Common.{play_of, plays_joined, power_on_board, power_on_board_view, refl, resumed-runs-are-timed}
+use Rattle.pac_run.proofs.Common.{resumed-runs-end, resumed_of, rules, run_from, run_of_play, runs-begin, saved_board, start_fault}
+use Rattle.pac_run.proofs.Common.{state_text, stopped-runs-stay, subst, sym, text-board, total_frames, trace_of, true, with_script}
+use Rattle.pac_run.proofs.Common.{without_history, written_version, ℕ, ◌&&◌, ◌*◌, ◌++◌, ◌+◌, ◌-◌, ◌/◌, ◌∙◌, ◌≡◌, ◌≤◌}
 use Rattle.pac_run.proofs.Begins.{time-fits, asked-fits}
 use Rattle.pac_run.proofs.Cut.{JoinsRuns, board_of_end, has-frames, runs-joined, still-between}
 use Rattle.pac_run.proofs.Scripts.{play-joined, total-joined}

@@ -1,22 +1,10 @@
 -- Writers that are lent, and what their owners have when the loans end: what holds of a writer that is lent holds of its owner.
-use Rattle.std.proofs.Common.{◌≡◌, ℕ, List, [], Result, Ok, Err, inl, inr, subst, arith, rules}
-use Rattle.std.specs.Borrow.{MutBor}
-use Rattle.pac_media.specs.CountedFile.{Counted}
-use Rattle.pac_media.specs.WriteFault.{WriteFault}
-use Rattle.pac_media.specs.CountedLaws.{HasTaken}
-use Rattle.pac_media.specs.CountedProofs.{Puts}
-use Rattle.pac_media.specs.Writes.{StopsAfter}
-use Rattle.pac_media.specs.WritesProofs.{lent_took, lent_refused}
-use Rattle.pac_board_course.specs.Output.{Output}
-use Rattle.pac_debug.specs.Running.{Setting}
+use Rattle.pac_run.proofs.Common.{AllTold, BreaksPlay, Counted, Err, FramesStop, HasSoundOf, HasTaken, IsLineUntold, IsUnwritten, List}
+use Rattle.pac_run.proofs.Common.{MutBor, Ok, Outcome, Output, OutputFault, Played, Puts, RecordsPlay, Result, Setting, StopsAfter}
+use Rattle.pac_run.proofs.Common.{StopsInText, TakesText, ToldAtWave, ToldTill, WaveStops, WriteFault, WritesWholeText, Writing, [], arith}
+use Rattle.pac_run.proofs.Common.{inl, inr, lent_refused, lent_took, rules, subst, writing, ℕ, ◌≡◌}
 use Rattle.pac_run.specs.declared.fault.Output.{Output as Which}
 use Rattle.pac_run.specs.declared.fault.Output.TheVariants as which
-use Rattle.pac_run.specs.declared.fault.OutputFault.{OutputFault}
-use Rattle.pac_board_course.specs.declared.outcome.Outcome.{Outcome}
-use Rattle.pac_run.specs.Playing.{Played}
-use Rattle.pac_run.specs.Recorded.{BreaksPlay, RecordsPlay, WritesWholeText}
-use Rattle.pac_run.specs.Run.{Writing, TakesText, StopsInText, IsUnwritten, FramesStop, WaveStops, writing}
-use Rattle.pac_run.specs.Watched.{AllTold, ToldTill, ToldAtWave, HasSoundOf, IsLineUntold}
 
 -- What holds of one writer holds of the other.
 pub record Carries {V W : Type 0} (one : Writing V) (other : Writing W) : Type 0 where

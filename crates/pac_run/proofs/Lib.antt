@@ -1,3 +1,4 @@
+pub mod Common
 pub mod Planned
 pub mod Begins
 pub mod Heard

@@ -1,32 +1,11 @@
 -- A set that plays a program has the program's ROM, in which the program's items lie.
-use Rattle.std.proofs.Common.{arith, rules, ◌≡◌, ℕ, List, Option, None, Some, option_map, option_copied, Result, Ok, Err, subst, ap, true}
-use Rattle.std.proofs.lemmas.Bool.{false≢true}
-use Rattle.std.specs.Prelude.{is_ok}
-use Rattle.std.specs.Option.{option_map_or}
-use Rattle.std.proofs.lemmas.List.Elements.{All-nil}
-use Rattle.std.specs.Global.{Box}
-use Rattle.pac_asm.specs.PlacedItems.{AllLie, Lies}
-use Rattle.pac_roms_manifest.specs.Manifests.{manifest_of}
-use Rattle.pac_roms_manifest.specs.Sets.{set_of, fault_of_set, parts_of_set}
-use Rattle.pac_roms_manifest.specs.Results.{SetGives}
-use Rattle.pac_roms_manifest.specs.declared.fault.SetFault.{SetFault}
-use Rattle.pac_roms_manifest.specs.declared.fault.SetError.{SetError}
-use Rattle.pac_roms_manifest.specs.declared.manifest.Manifest.{Manifest}
-use Rattle.pac_roms_manifest.specs.declared.part.Part.{Part}
-use Rattle.pac_asm.specs.Assembled.{Assembled, items_of}
-use Rattle.pac_board_course.specs.RomParts.{Parts, IsWhole}
-use Rattle.pac_run.specs.declared.fault.RunFault.{RunFault}
+use Rattle.pac_run.proofs.Common.{All-nil, AllLie, Assembled, BoardValue, Box, Err, IsFirstBoard, IsPrepared, IsStarted, IsStateRefused}
+use Rattle.pac_run.proofs.Common.{IsWhole, Judges, LieIn, Lies, List, Manifest, None, Ok, Option, Part, Parts, Prepares, RefusesState}
+use Rattle.pac_run.proofs.Common.{Result, RunFault, RunInputs, SetError, SetFault, SetGives, Some, StartsBoard, StateFault, Stretch, ap}
+use Rattle.pac_run.proofs.Common.{arith, false≢true, fault_of_set, fault_told, is_ok, items_of, manifest_of, option_copied, option_map}
+use Rattle.pac_run.proofs.Common.{option_map_or, parts_of_set, plan_of, plan_with, program_in, program_items, rules, script_of, script_told}
+use Rattle.pac_run.proofs.Common.{set_in, set_of, set_told, subst, true, ℕ, ◌>>=◌, ◌≡◌}
 use Rattle.pac_run.specs.declared.fault.RunFault.TheVariants as fault
-use Rattle.pac_board_course.specs.Script.{script_of}
-use Rattle.pac_board_course.specs.Stretch.{Stretch}
-use Rattle.pac_board_course.specs.State.{BoardValue}
-use Rattle.pac_run.specs.declared.inputs.RunInputs.{RunInputs}
-use Rattle.pac_run.specs.declared.fault.StateFault.{StateFault}
-use Rattle.pac_asm.specs.Results.{◌>>=◌}
-use Rattle.pac_run.specs.Plan.{set_in, IsStateRefused, program_in, plan_of, plan_with}
-use Rattle.pac_run.specs.PlanProofs.{fault_told, set_told, script_told, program_items, LieIn, Judges}
-use Rattle.pac_run.specs.Start.{IsFirstBoard, RefusesState}
-use Rattle.pac_run.specs.Started.{IsPrepared, IsStarted, Prepares, StartsBoard}
 use Rattle.pac_run.proofs.Answered.{NoWrite, script-writes}
 
 pub err-ok : {A : Type 0} (refused : RunFault) (value : A) → ◌≡◌ {A = Result A RunFault} (Err refused) (Ok value) → ⊥

@@ -1,30 +1,14 @@
 -- What a player's run leaves of frames and wave and of the player, by its answer.
-use Rattle.std.proofs.lemmas.Grind.{common_steps}
-use Rattle.std.proofs.Common.{◌≡◌, ℕ, pos, ◌*◌, List, [], ◌++◌, length, replicate, None, Some, Result, Ok, Err, rules}
-use Rattle.std.proofs.Common.{sym, ap, subst, ◌∙◌, append_assoc, append-nil, arith}
-use Rattle.std.specs.Prelude.{IfOk}
-use Rattle.pac_media.specs.CountedLaws.{HasTaken}
-use Rattle.pac_media.specs.CountedFile.{Counted}
-use Rattle.pac_media.specs.WriteFault.{WriteFault}
-use Rattle.pac_media.proofs.Files.{Joins, stops-within}
-use Rattle.pac_media.specs.Samples.{samples_text, wav_header}
-use Rattle.pac_media.specs.Sound.{HasText, Delivers, SoundFails, FinishesSound}
+use Rattle.pac_run.proofs.Common.{BreaksPlay, CommandFault, Counted, Delivers, Err, Film, FinishesSound, Giving, HasBegun, HasTaken}
+use Rattle.pac_run.proofs.Common.{HasText, IfOk, IsBrokenOff, IsPlayHeldUp, IsPlayed, IsUnwritten, Joins, List, None, Ok, Outcome, Output}
+use Rattle.pac_run.proofs.Common.{OutputFault, Played, PlaysInto, RecordsPlay, Reel, Result, Some, SoundFails, WriteFault, WritesSound}
+use Rattle.pac_run.proofs.Common.{Writing, [], ap, append-nil, append_assoc, arith, common_steps, film_giving, film_took, frame_samples}
+use Rattle.pac_run.proofs.Common.{heard_by, images_text, length, pos, replicate, rules, samples_text, shown_by, sound_text, stops-within}
+use Rattle.pac_run.proofs.Common.{subst, sym, wav_header, wave_file_text, wave_so_far, writing, ℕ, ◌*◌, ◌++◌, ◌∙◌, ◌≡◌}
 use Rattle.pac_media.specs.Sound as media
-use Rattle.pac_board_course.specs.Output.{Output}
-use Rattle.pac_board_course.specs.SinksLaws.{Giving}
-use Rattle.pac_board_course.specs.Step.{frame_samples}
-use Rattle.pac_board_course.specs.declared.outcome.Outcome.{Outcome}
-use Rattle.pac_debug.specs.declared.line.CommandFault.{CommandFault}
 use Rattle.pac_debug.specs.declared.line.CommandFault.TheVariants as faults
-use Rattle.pac_run.specs.declared.fault.OutputFault.{OutputFault}
 use Rattle.pac_run.specs.declared.fault.Output.{Output as Which}
 use Rattle.pac_run.specs.declared.fault.Output.TheVariants as which
-use Rattle.pac_run.specs.declared.film.Film.{Film}
-use Rattle.pac_run.specs.Films.{film_took, film_giving}
-use Rattle.pac_run.specs.Playing.{IsBrokenOff, IsPlayHeldUp, IsPlayed, Played, PlaysInto}
-use Rattle.pac_run.specs.Recorded.{BreaksPlay, HasBegun, RecordsPlay, Reel, WritesSound, heard_by, shown_by}
-use Rattle.pac_run.specs.Run.{Writing, IsUnwritten, writing}
-use Rattle.pac_run.specs.Texts.{images_text, sound_text, wave_file_text, wave_so_far}
 use Rattle.pac_run.proofs.Filmed.{filmed, header-long, zeros-last}
 use Rattle.pac_run.proofs.Broken.{StopsThere, sound-of, stops-among, stops-at-zeros}
 

@@ -1,19 +1,8 @@
 -- The answers of what was prepared, begun and written.
-use Rattle.std.proofs.Common.{◌≡◌, ℕ, List, Option, Result, Ok, Err, ap, subst, ◌∙◌, arith, rules}
-use Rattle.pac_board_course.specs.Course.{CourseValue, begun, course_after, way_on}
-use Rattle.pac_board_course.specs.CourseProofs.{board_asked}
-use Rattle.pac_board_course.specs.State.{BoardValue}
-use Rattle.pac_board_course.specs.declared.outcome.Outcome.{Outcome}
-use Rattle.pac_state.specs.Files.{IsState}
-use Rattle.pac_run.specs.declared.fault.RunFault.{RunFault}
-use Rattle.pac_run.specs.declared.inputs.RunInputs.{RunInputs}
-use Rattle.pac_run.specs.declared.plan.Prepared.{Prepared}
-use Rattle.pac_run.specs.Plan.{Plan, plan_with}
-use Rattle.pac_run.specs.Playing.{course_playing, played}
-use Rattle.pac_run.specs.Recorded.{IsRunTo, RunsTo, WritesPlay, WritesRun, course_contents}
-use Rattle.pac_run.specs.Resumes.{contents_from, last_state, WithFirstBoard}
-use Rattle.pac_run.specs.Run.{Writings, WithPlan}
-use Rattle.pac_run.specs.Started.{IsPrepared}
+use Rattle.pac_run.proofs.Common.{BoardValue, CourseValue, Err, IsPrepared, IsRunTo, IsState, List, Ok, Option, Outcome, Plan, Prepared}
+use Rattle.pac_run.proofs.Common.{Result, RunFault, RunInputs, RunsTo, WithFirstBoard, WithPlan, WritesPlay, WritesRun, Writings, ap, arith}
+use Rattle.pac_run.proofs.Common.{begun, board_asked, contents_from, course_after, course_contents, course_playing, last_state, plan_with}
+use Rattle.pac_run.proofs.Common.{played, rules, subst, way_on, ℕ, ◌∙◌, ◌≡◌}
 use Rattle.pac_run.proofs.Answered.{broke-off, written}
 use Rattle.pac_run.proofs.Traced.{same-contents, same-state}
 

@@ -1,12 +1,6 @@
 -- Two scripts, one after another, are one play.
-use Rattle.std.proofs.Common.{◌≡◌, ℕ, ◌+◌, ◌-◌, ◌≤◌, nat_le, Bool, true, if◌then◌else◌, arith, inl, inr, rules}
-use Rattle.std.proofs.Common.{List, [], ◌∷◌, ◌++◌, refl, ap, ◌∙◌}
-use Rattle.std.proofs.lemmas.Bool.{cases_Bool, le-ltb}
-use Rattle.std.proofs.lemmas.Bool.Decides.{nat_tests}
-use Rattle.pac_board_course.specs.Stretch.{Stretch}
-use Rattle.pac_board_course.specs.Stretches.{total_frames, held, held_after}
-use Rattle.pac_board_course.specs.TraceLaws.{plays_joined}
-use Rattle.pac_debug.specs.Running.{play_of}
+use Rattle.pac_run.proofs.Common.{Bool, List, Stretch, [], ap, arith, cases_Bool, held, held_after, if◌then◌else◌, inl, inr, le-ltb, nat_le}
+use Rattle.pac_run.proofs.Common.{nat_tests, play_of, plays_joined, refl, rules, total_frames, true, ℕ, ◌++◌, ◌+◌, ◌-◌, ◌∙◌, ◌∷◌, ◌≡◌, ◌≤◌}
 
 -- ---- frames
 

@@ -1,44 +1,13 @@
 -- A course's run, and a session's, is that of the plan.
-use Rattle.std.proofs.Common.{◌≡◌, ℕ, ◌+◌, ◌-◌, ◌*◌, ◌/◌, ◌^◌, ◌<◌, ◌≤◌, arith, rules}
-use Rattle.std.proofs.Common.{List, [], Option, None, Some, refl, sym, ap, subst, ◌∙◌}
-use Rattle.pac_board_course.specs.Stretches.{total_frames, most_frames}
-use Rattle.pac_board_course.specs.Stretch.{Stretch}
-use Rattle.pac_asm.specs.Assembled.{Assembled}
-use Rattle.pac_board_course.specs.RomParts.{Parts, IsWhole}
-use Rattle.pac_board_course.specs.BoardView.{BoardView, IsBoard, power_on_board_view}
-use Rattle.pac_board_course.specs.Carried.{walk_view}
-use Rattle.pac_board_course.specs.Entry.{Entry}
-use Rattle.pac_board_course.specs.History.{board_after_entries}
-use Rattle.pac_board_course.specs.Output.{picture_count}
-use Rattle.pac_board_course.specs.Step.{frame_ticks}
-use Rattle.pac_board_course.specs.Trace.{by_history, by_view, frames_gone, run_at, trace, frame_steps}
-use Rattle.pac_board_course.specs.Walk.{Walk}
-use Rattle.pac_board_course.proofs.Agreed.{runs-agree, resumed-runs-agree, power-on-board}
-use Rattle.pac_board_course.proofs.HostCarried.{steps-agree}
-use Rattle.pac_board_course.proofs.Outputs.{outputs-timed}
-use Rattle.pac_board_course.proofs.Resumed.{resumed-runs-end}
-use Rattle.pac_board_course.proofs.ResumedTimes.{resumed-runs-are-timed}
-use Rattle.pac_board_course.proofs.Runs.{walk-below}
-use Rattle.pac_board_course.proofs.Walks.{play-timely}
-use Rattle.pac_board_course.specs.State.{BoardValue}
-use Rattle.pac_board_course.proofs.Begun.{courses-begin}
-use Rattle.pac_board_course.specs.Course.{CourseValue, begun, course_after, end_of, held_in, next_in, way_on}
-use Rattle.pac_board_course.specs.CourseProofs.{board_asked}
-use Rattle.pac_debug.specs.MotionsLaws.{IsOutcome}
-use Rattle.pac_debug.specs.Running.{play_of}
-use Rattle.pac_debug.specs.RunningLaws.{whole_run}
-use Rattle.pac_debug.specs.Session.{SessionValue}
-use Rattle.pac_board_course.specs.declared.outcome.Outcome.{Outcome}
-use Rattle.pac_run.specs.declared.inputs.RunInputs.{RunInputs}
-use Rattle.pac_run.specs.DebugsProofs.{IsReady}
-use Rattle.pac_run.specs.Debugs.{IsSeenThrough, setting_of_plan}
-use Rattle.pac_run.specs.Plan.{Plan, plan_with}
-use Rattle.pac_run.specs.PlanProofs.{program_items, PlaysProgram}
-use Rattle.pac_run.specs.Playing.{outcome_between}
-use Rattle.pac_run.specs.Recorded.{course_contents}
-use Rattle.pac_run.specs.Resumes.{contents_from, end_state, resumed_of, run_from, without_history}
-use Rattle.pac_run.specs.Run.{trace_of, outcome_of}
-use Rattle.pac_run.specs.Start.{IsFirstBoard}
+use Rattle.pac_run.proofs.Common.{Assembled, BoardValue, BoardView, CourseValue, Entry, IsBoard, IsFirstBoard, IsOutcome, IsReady}
+use Rattle.pac_run.proofs.Common.{IsSeenThrough, IsWhole, List, None, Option, Outcome, Parts, Plan, PlaysProgram, RunInputs, SessionValue}
+use Rattle.pac_run.proofs.Common.{Some, Stretch, Walk, [], ap, arith, begun, board_after_entries, board_asked, by_history, by_view}
+use Rattle.pac_run.proofs.Common.{contents_from, course_after, course_contents, courses-begin, end_of, end_state, frame_steps, frame_ticks}
+use Rattle.pac_run.proofs.Common.{frames_gone, held_in, most_frames, next_in, outcome_between, outcome_of, outputs-timed, picture_count}
+use Rattle.pac_run.proofs.Common.{plan_with, play-timely, play_of, power-on-board, power_on_board_view, program_items, refl}
+use Rattle.pac_run.proofs.Common.{resumed-runs-agree, resumed-runs-are-timed, resumed-runs-end, resumed_of, rules, run_at, run_from}
+use Rattle.pac_run.proofs.Common.{runs-agree, setting_of_plan, steps-agree, subst, sym, total_frames, trace, trace_of, walk-below}
+use Rattle.pac_run.proofs.Common.{walk_view, way_on, whole_run, without_history, ℕ, ◌*◌, ◌+◌, ◌-◌, ◌/◌, ◌<◌, ◌^◌, ◌∙◌, ◌≡◌, ◌≤◌}
 
 -- ---- from power-on
 

@@ -1,21 +1,10 @@
 -- What a session that does its commands gives to a sink and tells, by its answer.
-use Rattle.std.proofs.Common.{◌≡◌, ℕ, List, [], Option, Some, Result, Ok, Err, sym, ap, subst, arith, ◌∙◌, rules}
-use Rattle.pac_media.specs.CountedLaws.{HasTaken}
-use Rattle.pac_media.specs.WriteFault.{WriteFault}
-use Rattle.pac_board_course.specs.SinksLaws.{Giving}
-use Rattle.pac_board_course.specs.declared.outcome.Outcome.{Outcome}
-use Rattle.pac_debug.specs.RunningLaws.{whole_run}
-use Rattle.pac_debug.specs.Session.{SessionValue, session_at_start}
-use Rattle.pac_debug.specs.SessionLaws.{session_due_outputs}
-use Rattle.pac_debug.specs.declared.line.CommandFault.{CommandFault}
+use Rattle.pac_run.proofs.Common.{CommandFault, Err, Giving, HasTaken, IsBrokenOff, IsPlayHeldUp, IsPlayed, IsSessionWatched}
+use Rattle.pac_run.proofs.Common.{IsWatchRefused, IsWatchUntold, List, Ok, Option, Outcome, PlaysInto, Result, Scene, SessionTells}
+use Rattle.pac_run.proofs.Common.{SessionValue, Some, TellsAll, WatchesSession, WriteFault, Writing, [], all-told, ap, arith}
+use Rattle.pac_run.proofs.Common.{outputs_to_give, rules, session_at_start, session_due_outputs, session_played, subst, sym, told-up-to}
+use Rattle.pac_run.proofs.Common.{watched_by, whole_run, writing, ℕ, ◌∙◌, ◌≡◌}
 use Rattle.pac_debug.specs.declared.line.CommandFault.TheVariants as faults
-use Rattle.pac_debug.specs.ObeyingLaws.{Scene}
-use Rattle.pac_debug.specs.Watched.{TellsAll}
-use Rattle.pac_debug.specs.WatchedLaws.{WatchesSession, IsSessionWatched, IsWatchRefused, IsWatchUntold, outputs_to_give}
-use Rattle.pac_debug.proofs.HeldUp.{all-told, told-up-to}
-use Rattle.pac_run.specs.Playing.{IsBrokenOff, IsPlayHeldUp, IsPlayed, PlaysInto, session_played, watched_by}
-use Rattle.pac_run.specs.Run.{Writing, writing}
-use Rattle.pac_run.specs.Watched.{SessionTells}
 use Rattle.pac_run.proofs.Lent.{Carries}
 
 module _ {S T U : Type 0} (to : Giving S) (wrote : T → List ℕ → T → Type 0) (balked : T → T → Type 0) (lines : List (List ℕ))

@@ -1,12 +1,6 @@
 -- What stays so of a run that failed, and what is there of one that was done.
-use Rattle.std.proofs.Common.{◌≡◌, List, [], ◌∷◌, Bool, true, false, Result, Ok, Err}
-use Rattle.std.proofs.Common.{refl, sym, subst, inl, inr}
-use Rattle.pac_run_files.specs.Files.{Handling, WantedOutput}
-use Rattle.pac_run.specs.Outcome.{Outcome}
-use Rattle.pac_run_command.specs.declared.failure.Failure.{Failure}
-use Rattle.pac_run_command.specs.declared.failure.Target.{Target}
-use Rattle.pac_run_command.specs.Outputs.{Does, InTurn, IsSettled, IsWrittenOut}
-use Rattle.pac_run_command.specs.WholeOutputs.{EndsWhole}
+use Rattle.pac_run_command.proofs.Common.{Bool, Does, EndsWhole, Err, Failure, Handling, InTurn, IsSettled, IsWrittenOut, List, Ok, Outcome}
+use Rattle.pac_run_command.proofs.Common.{Result, Target, WantedOutput, [], false, inl, inr, refl, subst, sym, true, ◌∷◌, ◌≡◌}
 
 -- ---- what is so of any files
 

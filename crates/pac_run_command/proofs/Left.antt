@@ -1,15 +1,7 @@
 -- A run that was done leaves a file for each output.
-use Rattle.std.proofs.Common.{◌≡◌, ℕ, List, Option, None, Some, option_to_list, Result, Ok, Err}
-use Rattle.std.proofs.Common.{sym, ap, true≢false}
-use Rattle.pac_run_files.specs.Files.{Handling, AllBegun}
-use Rattle.pac_run.specs.Resumes.{Resumes}
-use Rattle.pac_run.specs.Run.{Writings, writing}
-use Rattle.pac_run.specs.Writes.{took_if_there, refused_if_there}
-use Rattle.pac_run.specs.Outcome.{Outcome}
-use Rattle.pac_run.specs.declared.inputs.RunInputs.{RunInputs}
-use Rattle.pac_run_command.specs.declared.failure.Failure.{Failure}
-use Rattle.pac_run_command.specs.Outputs.{state_output}
-use Rattle.pac_run_command.specs.Programs.{PerformsRun, RunsOrResumes}
+use Rattle.pac_run_command.proofs.Common.{AllBegun, Err, Failure, Handling, List, None, Ok, Option, Outcome, PerformsRun, Result, Resumes}
+use Rattle.pac_run_command.proofs.Common.{RunInputs, RunsOrResumes, Some, Writings, ap, option_to_list, refused_if_there, state_output, sym}
+use Rattle.pac_run_command.proofs.Common.{took_if_there, true≢false, writing, ℕ, ◌≡◌}
 use Rattle.pac_run_command.proofs.Failing.{AreFor, is_done}
 
 module _ {Disk File R : Type 0} (handling : Handling Disk File) (took : File → List ℕ → File → Type 0) (refused : File → File → Type 0)

@@ -1,17 +1,8 @@
 -- A run over writers that are lent, with its fault told as a failure.
-use Rattle.std.proofs.Common.{ℕ, List, Option, None, Some, Result, Ok, Err, ◌≡◌, ◌||◌, true, false, sym}
-use Rattle.std.proofs.lemmas.Bool.{false≢true}
-use Rattle.std.specs.Prelude.{is_some, option_copied}
-use Rattle.std.specs.Borrow.{Bor}
-use Rattle.pac_run.specs.Outcome.{Outcome}
-use Rattle.pac_run.specs.declared.fault.RunFault.{RunFault}
-use Rattle.pac_run.specs.declared.inputs.RunInputs.{RunInputs}
-use Rattle.pac_run.specs.Run.{Writing, Writings, IsUnwritten, Runs}
-use Rattle.pac_run.specs.Resumes.{Resumes}
-use Rattle.pac_run.proofs.Carried.{runs, resumes, debugs}
-use Rattle.pac_run.proofs.Lent.{Carries, itself}
-use Rattle.pac_run_command.specs.declared.failure.Failure.{Failure}
-use Rattle.pac_run_command.specs.Programs.{HoldsByAnswer, PerformsRun, PerformsWatched, RunsOrResumes}
+use Rattle.pac_run_command.proofs.Common.{Bor, Carries, Err, Failure, HoldsByAnswer, IsUnwritten, List, None, Ok, Option, Outcome}
+use Rattle.pac_run_command.proofs.Common.{PerformsRun, PerformsWatched, Result, Resumes, RunFault, RunInputs, Runs, RunsOrResumes, Some}
+use Rattle.pac_run_command.proofs.Common.{Writing, Writings, debugs, false, false≢true, is_some, itself, option_copied, resumes, runs, sym}
+use Rattle.pac_run_command.proofs.Common.{true, ℕ, ◌||◌, ◌≡◌}
 
 by-answer : {one other : Result Outcome RunFault → Type 0} → ((answer : Result Outcome RunFault) → one answer → other answer)
     → (answer : Result Outcome Failure) → HoldsByAnswer one answer → HoldsByAnswer other answer

@@ -1,18 +1,8 @@
 -- What was read of a run's files, with the manifest as the program reads it.
-use Rattle.std.proofs.Common.{◌≡◌, ℕ, List, Option, Err, subst, ap, sym, ◌∙◌}
-use Rattle.std.specs.Result.{result_ok}
-use Rattle.pac_run.specs.Manifests.{manifest_of}
-use Rattle.pac_run.specs.Manifest.{Manifest}
-use Rattle.pac_run_options.specs.CommandLine.{AskedRun}
-use Rattle.pac_run_files.specs.Files.{FindsFile, FirstUnread}
-use Rattle.pac_run_files.specs.ReadProofs.{ReadsFiles}
-use Rattle.pac_run_files.specs.Read.{HasGivenFiles, HasParts, HasRead, PartUnread, manifest_part_names, part_files}
-use Rattle.pac_run_files.specs.declared.given.Given.{Given}
-use Rattle.pac_run_files.specs.declared.given.ReadFault.{ReadFault}
-use Rattle.pac_run_files.specs.declared.given.ReadFault.TheVariants.{Unreadable, Memory}
-use Rattle.pac_run_files.specs.declared.parts.NamedFile.{NamedFile}
-use Rattle.pac_run_command.specs.Endings.{IsOfReading}
-use Rattle.pac_run_command.specs.declared.failure.Failure.{Failure}
+use Rattle.pac_run_command.proofs.Common.{AskedRun, Err, Failure, FindsFile, FirstUnread, Given, HasGivenFiles, HasParts, HasRead}
+use Rattle.pac_run_command.proofs.Common.{IsOfReading, List, Manifest, NamedFile, Option, PartUnread, ReadFault, ReadsFiles, Unreadable, ap}
+use Rattle.pac_run_command.proofs.Common.{manifest_of, manifest_part_names, part_files, result_ok, subst, sym, ℕ, ◌∙◌, ◌≡◌}
+use Rattle.pac_run_files.specs.declared.given.ReadFault.TheVariants.{Memory}
 use Rattle.pac_run_command.specs.FailuresProofs as failures_proofs
 
 -- why nothing was begun, by a fault of reading

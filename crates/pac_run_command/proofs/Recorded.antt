@@ -1,20 +1,9 @@
 -- A run of what was read, by itself or under a debugger.
-use Rattle.std.proofs.Common.{◌≡◌, inl, inr, ℕ, List, Option, Some, Vec, Global, option_map, subst, sym}
-use Rattle.std.specs.Borrow.{Bor}
-use Rattle.std.specs.Prelude.{option_copied}
-use Rattle.pac_run.specs.Run.{Writing}
-use Rattle.pac_run_files.specs.Files.{FindsFile, Handling, WantedFile}
-use Rattle.pac_run_files.specs.Read.{HasIfNamed, PartUnread, played_files, watched_files}
-use Rattle.pac_run_files.specs.declared.files.FileKind.TheVariants.{Any}
-use Rattle.pac_run_options.specs.CommandLine.{AskedPlay, AskedDebug}
-use Rattle.pac_run_command.specs.Endings.{Ending, IsOfReading}
-use Rattle.pac_run_command.specs.Outputs.{PlaysRun, ReadsAndRuns, WatchesRun, from_power_on}
-use Rattle.pac_run_command.specs.Programs.{Performing, performing, watching}
-use Rattle.pac_run_command.specs.RecordedProofs.{RunsGiven, silent_in}
-use Rattle.pac_run_command.specs.declared.failure.Failure.{Failure}
-use Rattle.pac_run_command.specs.declared.failure.Failure.TheVariants.{Read, Source, Set, Script, State, Extent, Write, Memory, Words}
-use Rattle.pac_run_command.specs.declared.record.Manner.{Manner}
-use Rattle.pac_run_command.specs.declared.record.Manner.TheVariants.{Played, Watched}
+use Rattle.pac_run_command.proofs.Common.{Any, AskedDebug, AskedPlay, Bor, Ending, Extent, Failure, FindsFile, Global, Handling, HasIfNamed}
+use Rattle.pac_run_command.proofs.Common.{IsOfReading, List, Manner, Memory, Option, PartUnread, Performing, Played, PlaysRun, Read}
+use Rattle.pac_run_command.proofs.Common.{ReadsAndRuns, RunsGiven, Script, Set, Some, Source, State, Vec, WantedFile, Watched, WatchesRun}
+use Rattle.pac_run_command.proofs.Common.{Words, Write, Writing, from_power_on, inl, inr, option_copied, option_map, performing}
+use Rattle.pac_run_command.proofs.Common.{played_files, silent_in, subst, sym, watched_files, watching, ℕ, ◌≡◌}
 
 pub silent-in : (manner : Manner) {report text : Type 0} → report → text → silent_in manner report text
 silent-in (Played from) report text = report

@@ -1,12 +1,7 @@
 -- A run whose outputs couldn't all be begun.
-use Rattle.std.proofs.Common.{◌≡◌, List, Result, Err, ap, subst}
-use Rattle.pac_run_files.specs.Files.{Handling, WantedOutput, FirstUnbegun}
-use Rattle.pac_run_options.specs.CommandLine.{AskedPlay}
-use Rattle.pac_run_command.specs.FailuresProofs.{Opens}
-use Rattle.pac_run_command.specs.Outputs.{IsRunUncreated, run_outputs}
-use Rattle.pac_run_command.specs.declared.failure.Failure.{Failure}
-use Rattle.pac_run_command.specs.declared.failure.Failure.TheVariants.{Read, Source, Set, Script, State, Extent, Write, Memory, Words}
-use Rattle.pac_run_command.specs.declared.failure.Target.{Target}
+use Rattle.pac_run_command.proofs.Common.{AskedPlay, Err, Extent, Failure, FirstUnbegun, Handling, IsRunUncreated, List, Memory, Opens}
+use Rattle.pac_run_command.proofs.Common.{Read, Result, Script, Set, Source, State, Target, WantedOutput, Words, Write, ap, run_outputs}
+use Rattle.pac_run_command.proofs.Common.{subst, ◌≡◌}
 
 module _ {Disk File A : Type 0} (handling : Handling Disk File) (asked : AskedPlay) (wanted : List (WantedOutput Target))
     (begun : A → Type 0)

@@ -1,21 +1,11 @@
 -- The file of an output that takes its place is whole at each moment of a run.
-use Rattle.std.proofs.Common.{◌≡◌, ◌⊎◌, ℕ, List, [], ◌∷◌, Bool, true, false, Option, None, Some, Result, Ok, Err}
-use Rattle.std.proofs.Common.{refl, sym, ap, ◌∙◌, subst, inl, inr, true≢false}
-use Rattle.pac_run_files.specs.Files.{Handling, WantedOutput, AllBegun, FirstUnbegun, begins_by, drafted, lets_go_by}
-use Rattle.pac_run_files.specs.declared.given.Given.{Given}
-use Rattle.pac_run_files.specs.declared.parts.NamedFile.{NamedFile}
-use Rattle.pac_run_options.specs.CommandLine.{AskedPlay}
-use Rattle.pac_run.specs.Run.{writing}
-use Rattle.pac_run.specs.Outcome.{Outcome}
-use Rattle.pac_run.specs.WriteFault.{WriteFault}
-use Rattle.pac_run_command.specs.declared.failure.Failure.{Failure}
-use Rattle.pac_run_command.specs.declared.failure.Target.{Target}
-use Rattle.pac_run_command.specs.Outputs.{InTurn, IsPerformed, IsSettled, IsWrittenOut, by_call, run_output_files}
-use Rattle.pac_run_command.specs.Outputs.{run_outputs, takes_place_by, writes_out_by}
-use Rattle.pac_run_command.specs.Programs.{Performing, writings_of}
-use Rattle.pac_run_command.specs.WholeOutputs.{AllElsewhere, AllOutputsAreWhole, EndsWhole, HasLater}
-use Rattle.pac_run_command.specs.WholeOutputs.{HasPathAlone}
-use Rattle.pac_run_command.specs.WholeOutputs.{HasNewText, IsSome, ReplacesWhole, StaysWhole, WhileBegun, WhileInTurn}
+use Rattle.pac_run_command.proofs.Common.{AllBegun, AllElsewhere, AllOutputsAreWhole, AskedPlay, Bool, EndsWhole, Err, Failure}
+use Rattle.pac_run_command.proofs.Common.{FirstUnbegun, Given, Handling, HasLater, HasNewText, HasPathAlone, InTurn, IsPerformed, IsSettled}
+use Rattle.pac_run_command.proofs.Common.{IsSome, IsWrittenOut, List, NamedFile, None, Ok, Option, Outcome, Performing, ReplacesWhole}
+use Rattle.pac_run_command.proofs.Common.{Result, Some, StaysWhole, Target, WantedOutput, WhileBegun, WhileInTurn, WriteFault, [], ap}
+use Rattle.pac_run_command.proofs.Common.{begins_by, by_call, drafted, false, inl, inr, lets_go_by, refl, run_output_files, run_outputs}
+use Rattle.pac_run_command.proofs.Common.{subst, sym, takes_place_by, true, true≢false, writes_out_by, writing, writings_of, ℕ, ◌∙◌, ◌∷◌}
+use Rattle.pac_run_command.proofs.Common.{◌≡◌, ◌⊎◌}
 use Rattle.pac_run_command.proofs.Failing.{AreFor, Fit, failed-ends, fit-rest, is_done, lift-ends, run-fits, unfit-ends, unsettled}
 use Rattle.pac_run_command.proofs.Left.{state-there}
 

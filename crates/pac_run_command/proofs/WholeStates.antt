@@ -1,24 +1,11 @@
 -- The file of the state, which is the last output: a run that fails leaves it as it was.
-use Rattle.std.proofs.Common.{◌≡◌, ℕ, List, [], ◌∷◌, ◌++◌, Bool, true, false, Option, None, Some, option_to_list, Result, Ok, Err}
-use Rattle.std.proofs.Common.{refl, sym, ap, ◌∙◌, inl, inr, true≢false}
-use Rattle.pac_run_files.specs.Files.{Handling, WantedOutput, AllBegun, drafted}
-use Rattle.pac_run_options.specs.CommandLine.{AskedRun}
-use Rattle.pac_run.specs.Resumes.{state_text}
-use Rattle.pac_run.specs.Run.{Writings, writing}
-use Rattle.pac_run.specs.Writes.{took_if_there, refused_if_there}
-use Rattle.pac_run.specs.Outcome.{Outcome}
-use Rattle.pac_run.specs.declared.fault.Output.TheVariants.{Frames, Listing, State, Wave}
-use Rattle.pac_run.specs.declared.inputs.RunInputs.{RunInputs}
-use Rattle.pac_run_command.specs.declared.failure.Failure.{Failure}
-use Rattle.pac_run_command.specs.declared.failure.Target.{Target}
-use Rattle.pac_run_command.specs.declared.failure.Target.TheVariants.{Of}
-use Rattle.pac_run_command.specs.Outputs.{film_output, run_output_files}
-use Rattle.pac_run_command.specs.Outputs.{run_outputs}
-use Rattle.pac_run_command.specs.Programs.{PerformsRun, writings_of}
-use Rattle.pac_run_command.specs.WholeOutputs.{EndsInState, EndsWhole, HasLater, HasNewState}
-use Rattle.pac_run_command.specs.WholeOutputs.{HasPathAlone}
-use Rattle.pac_run_command.specs.WholeOutputs.{HasNewText, ReplacesWhole, StatesAreWhole}
-use Rattle.pac_run_command.specs.WholeOutputs.{saving}
+use Rattle.pac_run_command.proofs.Common.{AllBegun, AskedRun, Bool, EndsInState, EndsWhole, Err, Failure, Frames, Handling, HasLater}
+use Rattle.pac_run_command.proofs.Common.{HasNewState, HasNewText, HasPathAlone, List, Listing, None, Of, Ok, Option, Outcome, PerformsRun}
+use Rattle.pac_run_command.proofs.Common.{ReplacesWhole, Result, RunInputs, Some, StatesAreWhole, Target, WantedOutput, Wave, Writings, []}
+use Rattle.pac_run_command.proofs.Common.{ap, drafted, false, film_output, inl, inr, option_to_list, refl, refused_if_there}
+use Rattle.pac_run_command.proofs.Common.{run_output_files, run_outputs, saving, state_text, sym, took_if_there, true, true≢false, writing}
+use Rattle.pac_run_command.proofs.Common.{writings_of, ℕ, ◌++◌, ◌∙◌, ◌∷◌, ◌≡◌}
+use Rattle.pac_run.specs.declared.fault.Output.TheVariants.{State}
 use Rattle.pac_run_command.proofs.Failing.{is_done, stays-failed}
 use Rattle.pac_run_command.proofs.Left.{done-from, state-there}
 use Rattle.pac_run_command.proofs.WholeOutputs.{stays}

@@ -1,13 +1,8 @@
 -- The folder of a path: what stands before its last slash.
-use Rattle.std.proofs.Common.{◌≡◌, ◌≢◌, ℕ, ◌+◌, ◌<◌, ◌≤◌, List, [], ◌∷◌, ◌++◌, length, get_or, take, drop, suc, Option, None, Some}
-use Rattle.std.proofs.Common.{MatchOption, option_map}
-use Rattle.std.proofs.Common.{refl, sym, ap, ◌∙◌, arith}
-use Rattle.std.proofs.lemmas.List.{take-append-drop}
-use Rattle.std.proofs.lemmas.Str.Pattern.{NoCharPasses-char, drop_at_char}
+use Rattle.pac_run_files.proofs.Common.{List, MatchOption, NoCharPasses-char, None, Option, RFindsChar, Some, [], ap, arith, before_slash}
+use Rattle.pac_run_files.proofs.Common.{drop, drop_at_char, get_or, length, option_map, put_before, refl, slash, suc, sym, take}
+use Rattle.pac_run_files.proofs.Common.{take-append-drop, ℕ, ◌++◌, ◌+◌, ◌<◌, ◌∙◌, ◌∷◌, ◌≡◌, ◌≢◌, ◌≤◌}
 use Rattle.std.specs.Borrow.{Bor}
-use Rattle.std.specs.Str.Pattern.{RFindsChar}
-use Rattle.pac_run_files.specs.Files.{put_before, before_slash}
-use Rattle.pac_run_files.specs.Names.{slash}
 
 -- no byte is a slash
 abbrev pub HasNone : List ℕ → Type 0

@@ -1,12 +1,9 @@
 -- Names that are followed part by part.
-use Rattle.std.proofs.Common.{◌≡◌, ℕ, zero, suc, Bool, true, false, ◌==◌, if◌then◌else◌, List, [], ◌∷◌, ◌++◌, codes, Option, None, Some}
-use Rattle.std.proofs.Common.{option_map, string_bytes, String, Global, Bor}
-use Rattle.std.proofs.Common.{◌≢◌, ◌-◌, refl, sym, ap, ◌∙◌, subst, arith}
-use Rattle.std.proofs.lemmas.List.{append-nil}
-use Rattle.pac_run_files.specs.Names.{slash, lengthen, name_parts, begins_below}
-use Rattle.pac_run_files.specs.Links.{FindsLink, Way, LeadsOn, Leads, way_from, way_along}
-use Rattle.pac_run_files.specs.LinksProofs.{way_of_place, IsReached, MeetsPart, Follows, parts_left, is_joined}
-use Rattle.pac_run_files.specs.declared.links.PlaceReached.{PlaceReached}
+use Rattle.pac_run_files.proofs.Common.{Bool, Bor, FindsLink, Follows, Global, IsReached, Leads, LeadsOn, List, MeetsPart, None, Option}
+use Rattle.pac_run_files.proofs.Common.{PlaceReached, Some, String, Way, [], ap, append-nil, arith, begins_below, codes, false}
+use Rattle.pac_run_files.proofs.Common.{if◌then◌else◌, is_joined, lengthen, name_parts, option_map, parts_left, refl, slash, string_bytes}
+use Rattle.pac_run_files.proofs.Common.{subst, suc, sym, true, way_along, way_from, way_of_place, zero, ℕ, ◌++◌, ◌-◌, ◌==◌, ◌∙◌, ◌∷◌, ◌≡◌}
+use Rattle.pac_run_files.proofs.Common.{◌≢◌}
 use Rattle.pac_run_files.specs.declared.links.Met.TheVariants as met
 use Rattle.pac_run_files.specs.declared.links.Rest.TheVariants as rest
 

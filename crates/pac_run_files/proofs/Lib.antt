@@ -1,3 +1,4 @@
+pub mod Common
 pub mod Folders
 pub mod Following
 pub mod NameParts

@@ -1,11 +1,6 @@
 -- The parts of a name.
-use Rattle.std.proofs.Common.{◌≡◌, ◌≢◌, ℕ, ◌||◌, if◌then◌else◌, eqb, List, [], ◌∷◌, ◌++◌, suc, codes}
-use Rattle.std.proofs.Common.{refl, ap, ◌∙◌, arith}
-use Rattle.std.proofs.lemmas.Bool.Decides.{nat_tests}
-use Rattle.std.specs.Str.{bytes_eq}
-use Rattle.std.specs.List.{list_any}
-use Rattle.pac_lemmas.proofs.Booleans.{or-false}
-use Rattle.pac_run_files.specs.Names.{slash, lengthen, name_parts, climbs}
+use Rattle.pac_run_files.proofs.Common.{List, [], ap, arith, bytes_eq, climbs, codes, eqb, if◌then◌else◌, lengthen, list_any, name_parts}
+use Rattle.pac_run_files.proofs.Common.{nat_tests, or-false, refl, slash, suc, ℕ, ◌++◌, ◌||◌, ◌∙◌, ◌∷◌, ◌≡◌, ◌≢◌}
 use Rattle.pac_run_files.proofs.Folders.{HasNone}
 
 -- a byte that is no slash

@@ -1,15 +1,8 @@
 -- Files that are read one after another.
-use Rattle.std.proofs.Common.{◌≡◌, ℕ, Bool, true, List, [], ◌∷◌, ◌++◌, Option, None, Some, Vec, Global, Result}
-use Rattle.std.proofs.Common.{Ok, Err, inl, inr, sym, subst}
-use Rattle.pac_run_files.specs.Names.{is_within_folder}
-use Rattle.pac_run_files.specs.Links.{Leads}
-use Rattle.pac_run_files.specs.Files.{FindsFile, MayFind, LeadsIf, IsUnread, FirstUnread, folder_of, standing_by}
-use Rattle.pac_run_files.specs.declared.files.FileKind.TheVariants.{Plain}
-use Rattle.pac_run_files.specs.ReadProofs.{ReadsFiles}
-use Rattle.pac_run_files.specs.Read.{IsPart, HasParts, part_files}
-use Rattle.pac_run_files.specs.declared.given.ReadFault.{ReadFault}
-use Rattle.pac_run_files.specs.declared.given.ReadFault.TheVariants.{Unreadable, Memory}
-use Rattle.pac_run_files.specs.declared.parts.NamedFile.{NamedFile}
+use Rattle.pac_run_files.proofs.Common.{Bool, Err, FindsFile, FirstUnread, Global, HasParts, IsPart, IsUnread, Leads, LeadsIf, List}
+use Rattle.pac_run_files.proofs.Common.{MayFind, Memory, NamedFile, None, Ok, Option, Plain, ReadFault, ReadsFiles, Result, Some}
+use Rattle.pac_run_files.proofs.Common.{Unreadable, Vec, [], folder_of, inl, inr, is_within_folder, part_files, standing_by, subst, sym}
+use Rattle.pac_run_files.proofs.Common.{true, ℕ, ◌++◌, ◌∷◌, ◌≡◌}
 
 module _ (finds : FindsFile) where
   -- after files that can be read, one that can't is the first

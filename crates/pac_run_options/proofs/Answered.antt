@@ -1,14 +1,8 @@
 -- What the words of a command line ask for, or what is wrong with them, from what clap says of them.
-use Rattle.std.proofs.Common.{◌≡◌, ◌∙◌, refl, sym, ap, subst, List, [], inl, inr, Option, Some, None, true, arith, rules}
-use Rattle.std.specs.Prelude.{option_and_then}
-use Rattle.clap.specs.Kinds.{or_else}
-use Rattle.clap.specs.Walk.{Row, Text}
-use Rattle.clap.specs.Words.{App, HasKind, HasMatchesOf, Kinds, fault_of, is_simple, is_simple_and_free, kind_of, subcommand_of}
-use Rattle.clap.specs.Words.{subcommand_rows_of}
-use Rattle.clap.specs.declared.error.Error.{Error}
-use Rattle.clap.specs.declared.error.kind.ErrorKind.TheVariants.{MissingRequiredArgument}
-use Rattle.clap.specs.declared.parser.matches.ArgMatches.{ArgMatches}
-use Rattle.pac_run_options.specs.CommandLine.{Asked, asked_command, conflict_of, faults_of, lack_of, own_faults_of, pacboard, request_of}
+use Rattle.pac_run_options.proofs.Common.{App, ArgMatches, Asked, Error, HasKind, HasMatchesOf, Kinds, List, MissingRequiredArgument, None}
+use Rattle.pac_run_options.proofs.Common.{Option, Row, Some, Text, [], ap, arith, asked_command, conflict_of, fault_of, faults_of, inl, inr}
+use Rattle.pac_run_options.proofs.Common.{is_simple, is_simple_and_free, kind_of, lack_of, option_and_then, or_else, own_faults_of}
+use Rattle.pac_run_options.proofs.Common.{pacboard, refl, request_of, rules, subcommand_of, subcommand_rows_of, subst, sym, true, ◌∙◌, ◌≡◌}
 
 -- ---- from the command as it was made
 

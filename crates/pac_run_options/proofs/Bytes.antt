@@ -1,15 +1,9 @@
 -- What the text of the DIP switches reads as.
-use Rattle.std.proofs.Common.{◌≡◌, ◌∙◌, ◌<◌, ◌^◌, ℕ, Bool, cond, true, false, refl, sym, ap, List, Option, Some, None, Result, Err, arith}
-use Rattle.std.specs.Prelude.{option_and_then}
-use Rattle.std.specs.Str.Parse.{IsNumeral, ParsesUnsigned, digits_value, without_leading_plus}
-use Rattle.clap.specs.Matches.{ReadsOne, one_text}
-use Rattle.clap.specs.Walk.{one_of, rows_of}
-use Rattle.clap.specs.declared.parser.matches.Found.{Found}
-use Rattle.clap.specs.ValueTests.{is_unsigned_in}
+use Rattle.pac_run_options.proofs.Common.{Accepts-accepts, Bool, Err, Found, IsNumeral, List, None, Option, ParsesUnsigned, ReadsOne}
+use Rattle.pac_run_options.proofs.Common.{Result, Some, accepts-Accepts, ap, arith, byte_of_text, cond, digits_value, false, is_unsigned_in}
+use Rattle.pac_run_options.proofs.Common.{one_of, one_text, one_text-rows, option_and_then, refl, rows_of, sym, true, without_leading_plus}
+use Rattle.pac_run_options.proofs.Common.{ℕ, ◌<◌, ◌^◌, ◌∙◌, ◌≡◌}
 use Rattle.clap.specs.declared.builder.value_parser.ValueParser.TheVariants as parser
-use Rattle.clap.proofs.WalkLemmas.{one_text-rows}
-use Rattle.clap.proofs.ValueTestLemmas.{Accepts-accepts, accepts-Accepts}
-use Rattle.pac_run_options.specs.CommandLine.{byte_of_text}
 
 is_byte : (text : List ℕ) → IsNumeral 10 (without_leading_plus text) → digits_value 10 (without_leading_plus text) < 2 ^ 8
     → is_unsigned_in 0 255 text ≡ true

@@ -1,22 +1,11 @@
 -- What building a command makes of what clap reads of it.
-use Rattle.std.proofs.lemmas.Grind.{common_steps}
-use Rattle.std.proofs.Common.{◌≡◌, ◌∙◌, ◌<◌, ◌+◌, ◌++◌, ℕ, true, false, List, [], ◌∷◌, Result, Ok, sym, ap, ap₂}
-use Rattle.std.proofs.Common.{add-one, append-nil, append_assoc, drop, drop-cons, fold, get_or, length, map, arith, rules}
-use Rattle.std.proofs.lemmas.List.{map-append}
-use Rattle.std.proofs.lemmas.Result.{IfOk-weaker}
-use Rattle.std.specs.List.{list_all}
+use Rattle.pac_run_options.proofs.Common.{AddsArg, AddsInTurn, AddsSubcommand, App, Arg, Argument, Command, IfOk-weaker, List, Ok, Result}
+use Rattle.pac_run_options.proofs.Common.{Rule, [], add-one, ap, app_of, app_of_command, append-nil, append_assoc, ap₂, arith, both}
+use Rattle.pac_run_options.proofs.Common.{command, common_steps, drop, drop-cons, false, fold, get_or, is_simple_arg, length, list_all, map}
+use Rattle.pac_run_options.proofs.Common.{map-append, out-Command, rule_of, rules, shape_of, sym, told_argument, true, with_rule, ℕ, ◌++◌}
+use Rattle.pac_run_options.proofs.Common.{◌+◌, ◌<◌, ◌∙◌, ◌∷◌, ◌≡◌}
 use Rattle.std.specs.Prelude.{IfOk}
-use Rattle.clap.proofs.WalkLemmas.{both}
-use Rattle.clap.specs.Simple.{shape_of}
-use Rattle.clap.specs.Walk.{is_simple_arg}
-use Rattle.clap.specs.Words.{AddsArg, AddsInTurn, AddsSubcommand, App, Rule, Text, app_of, rule_of, with_rule, with_subcommand}
-use Rattle.clap.specs.declared.builder.arg.Arg.{Arg}
-use Rattle.clap.specs.declared.builder.command.Command.{Command}
-use Rattle.clap.specs.declared.builder.command.Command.TheViews.{out-Command}
-use Rattle.pac_run_options.specs.CommandLineProofs.{app_of_command}
-use Rattle.pac_run_options.specs.CommandLine.{command}
-use Rattle.pac_run_options.specs.Rows.{told_argument}
-use Rattle.pac_run_options.specs.declared.command.Argument.{Argument}
+use Rattle.clap.specs.Words.{Text, with_subcommand}
 
 -- ---- what holds for no subcommand
 

@@ -1,3 +1,4 @@
+pub mod Common
 pub mod Commands
 pub mod Bytes
 pub mod Rows

@@ -1,19 +1,9 @@
 -- From what clap's getters answer to the rows.
-use Rattle.std.proofs.Common.{◌≡◌, Bool, false, true, List, Option, Some, None, option_map, is_some, arith, rules}
-use Rattle.std.specs.Prelude.{Box, option_and_then}
-use Rattle.std.specs.Borrow.{Bor}
-use Rattle.std.specs.Box.{box_value}
-use Rattle.clap.specs.Matches.{found_of, matched_of}
-use Rattle.clap.specs.Takes.{is_given}
-use Rattle.clap.specs.Walk.{Row, Text, rows_of}
-use Rattle.clap.specs.Simple.{subcommand_rows}
-use Rattle.clap.specs.declared.parser.matches.ArgMatches.{ArgMatches}
-use Rattle.clap.specs.declared.parser.matches.ArgMatches.TheViews.{out-SubCommand}
-use Rattle.clap.specs.declared.parser.matches.Found.{Found}
-use Rattle.clap.specs.declared.parser.matches.SubCommand.{SubCommand}
-use Rattle.clap.specs.declared.parser.matches.ValueSource.{ValueSource}
-use Rattle.clap.specs.declared.parser.matches.ValueSource.TheVariants.{CommandLine, DefaultValue}
-use Rattle.clap.proofs.TakesLemmas.{present_row}
+use Rattle.pac_run_options.proofs.Common.{ArgMatches, Bool, Bor, Box, CommandLine, DefaultValue, Found, List, None, Option, Row, Some}
+use Rattle.pac_run_options.proofs.Common.{SubCommand, Text, ValueSource, arith, box_value, false, is_given, is_some, matched_of}
+use Rattle.pac_run_options.proofs.Common.{option_and_then, option_map, out-SubCommand, present_row, rows_of, rules, subcommand_rows, true}
+use Rattle.pac_run_options.proofs.Common.{◌≡◌}
+use Rattle.clap.specs.Matches.{found_of}
 
 -- whether the words give an option, by where its values came from and whether there are any
 abbrev pub given_by : Option ValueSource → Bool → Bool

@@ -1,19 +1,8 @@
 -- A listing that is counted, and one that is written to the head of a buffer.
-use Rattle.std.proofs.Common.{◌≡◌, ◌≤◌, ◌<◌, ℕ, ◌-◌, ◌^◌, List, [], ◌++◌, length, take, drop, Result, Ok, Err}
-use Rattle.std.proofs.Common.{sym, ap, subst, ◌∙◌, arith, MutBor}
-use Rattle.std.proofs.Math.Nat.{min-eq_left, min-eq_right}
-use Rattle.std.proofs.lemmas.List.{take-append-drop, length-take-le}
-use Rattle.pac_out.specs.declared.WriteFault.{WriteFault}
-use Rattle.pac_out.specs.declared.counted.Counted.{Counted}
-use Rattle.pac_out.specs.declared.buffer.HostBuffer.{HostBuffer}
-use Rattle.pac_out.specs.Buffers.{buffer_took, buffer_refused}
-use Rattle.pac_out.specs.Counted.{file_count}
-use Rattle.pac_out.specs.CountedLaws.{HasTaken, HasPut, Refuses}
-use Rattle.pac_out.specs.CountedProofs.{Puts}
-use Rattle.pac_out.specs.WritesProofs.{lent_took, lent_refused}
-use Rattle.pac_source.specs.declared.size.Size.{Size}
-use Rattle.pac_source.specs.Sizes.{size_took, size_refused}
-use Rattle.pac_source.specs.Writing.{LeavesText}
+use Rattle.pac_source.proofs.Common.{Counted, Err, HasPut, HasTaken, HostBuffer, LeavesText, List, MutBor, Ok, Puts, Refuses, Result, Size}
+use Rattle.pac_source.proofs.Common.{WriteFault, [], ap, arith, buffer_refused, buffer_took, drop, file_count, length, length-take-le}
+use Rattle.pac_source.proofs.Common.{lent_refused, lent_took, min-eq_left, min-eq_right, size_refused, size_took, subst, sym, take}
+use Rattle.pac_source.proofs.Common.{take-append-drop, ℕ, ◌++◌, ◌-◌, ◌<◌, ◌^◌, ◌∙◌, ◌≡◌, ◌≤◌}
 
 -- a count is that of a text where it is its length
 counted-all : (size count : ℕ) → count ≡ size → count < 2 ^ 64 → count ≡ file_count size

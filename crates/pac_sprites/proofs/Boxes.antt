@@ -1,9 +1,5 @@
 -- Lines and columns of a sprite's box.
-use Rattle.std.proofs.Common.{◌≡◌, ℕ, ℤ, pos, ◌+ℤ◌, ◌<◌, ◌≤◌, ◌&&◌, nat_le, nat_lt, arith}
-use Rattle.std.proofs.lemmas.Bool.Decides.{nat_tests}
-use Rattle.std.proofs.lemmas.Int.{ints}
-use Rattle.std.specs.Int.Signed.{le_z}
-use Rattle.pac_sprites.specs.Sprites.{is_in_box}
+use Rattle.pac_sprites.proofs.Common.{arith, ints, is_in_box, le_z, nat_le, nat_lt, nat_tests, pos, ℕ, ℤ, ◌&&◌, ◌+ℤ◌, ◌<◌, ◌≡◌, ◌≤◌}
 
 -- the columns at which a sprite shows, by the first of them and the first after them
 pub columns-between : (left first last : ℤ) (x start end : ℕ) → first ≡ left → last ≡ left +ℤ pos 16 → 16 ≤ start → end ≤ 272 →

@@ -1,21 +1,11 @@
 -- A state that is read back out of its text.
-use Rattle.std.proofs.Common.{◌≡◌, ℕ, ℤ, ◌<◌, ◌^◌, ◌==◌, Bool, List, Option, rules, refl, ap, ◌∙◌, arith}
-use Rattle.std.proofs.lemmas.Nat.{from_le_bytes-to_le_bytes_2, from_le_bytes-to_le_bytes_4, from_le_bytes-to_le_bytes_8}
-use Rattle.std.specs.Int.{w32, w64, from_le_bytes}
-use Rattle.pac_board.specs.InterruptMode.{InterruptMode}
-use Rattle.pac_board.specs.Regs.{Regs}
-use Rattle.pac_board.specs.Latched.{Bits, binary_digit}
-use Rattle.pac_board.proofs.LatchBits.{bits_of-byte_of}
-use Rattle.pac_board.specs.MemoryView.{View}
-use Rattle.pac_board.specs.RomParts.{Parts}
-use Rattle.pac_roms_manifest.specs.Sets.{digest_of}
-use Rattle.pac_board.specs.Due.{Due}
-use Rattle.pac_board.specs.State.{BoardState}
-use Rattle.pac_out.specs.Pieces.{joined_pieces}
-use Rattle.pac_state.specs.Text.{saved_word, number_of_mode, processor_bytes, control_bytes, due_bytes, sealed_file, body, save_text}
+use Rattle.pac_state.proofs.Common.{AreWords, Bits, BoardState, Bool, Due, FitsSample, InterruptMode, IsState, List, Option, Parts, Regs}
+use Rattle.pac_state.proofs.Common.{View, ap, arith, binary_digit, bits_of-byte_of, body, bytes_at_place, control_bytes, controls_in}
+use Rattle.pac_state.proofs.Common.{digest_of, due_bytes, due_of, from_le_bytes, from_le_bytes-to_le_bytes_2, from_le_bytes-to_le_bytes_4}
+use Rattle.pac_state.proofs.Common.{from_le_bytes-to_le_bytes_8, joined_pieces, lines_of, memory_of, mode_of, number_of_mode}
+use Rattle.pac_state.proofs.Common.{processor_bytes, refl, regs_of, rules, save_text, saved_word, sealed_file, state_in, w32, w64, ℕ, ℤ}
+use Rattle.pac_state.proofs.Common.{◌<◌, ◌==◌, ◌^◌, ◌∙◌, ◌≡◌}
 use Rattle.pac_state.specs.Text as text
-use Rattle.pac_state.specs.Reading.{bytes_at_place, mode_of, regs_of, due_of, lines_of, controls_in, memory_of, state_in}
-use Rattle.pac_state.specs.Files.{AreWords, FitsSample, IsState}
 use Rattle.pac_state.proofs.Read.{same-state}
 use Rattle.pac_state.proofs.Written.{HasPieces, has-pieces, has-picture, lines-again, length-sha1}
 

@@ -1,9 +1,6 @@
 -- A list that is cut into pieces of one length.
-use Rattle.std.proofs.Common.{◌≡◌, ℕ, zero, suc, ◌*◌, ◌+◌, ◌<◌, List, [], length, get_or, take, drop, refl, ap, arith, rules}
-use Rattle.std.proofs.lemmas.List.{drop-drop}
-use Rattle.std.specs.Simd.{first_chunks}
-use Rattle.pac_num.specs.Tabulate.{tabulate}
-use Rattle.pac_board.proofs.Tabulated.{tabulate-is}
+use Rattle.pac_state.proofs.Common.{List, [], ap, arith, drop, drop-drop, first_chunks, get_or, length, refl, rules, suc, tabulate}
+use Rattle.pac_state.proofs.Common.{tabulate-is, take, zero, ℕ, ◌*◌, ◌+◌, ◌<◌, ◌≡◌}
 
 long : {X : Type 0} (width count : ℕ) (xs : List X) → length (first_chunks width count xs) ≡ count
 long width zero xs = refl

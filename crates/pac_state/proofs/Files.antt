@@ -1,25 +1,12 @@
 -- The text of a state is taken, and what is taken is the text of a state.
-use Rattle.std.proofs.Common.{◌≡◌, ◌≢◌, ℕ, ◌<◌, ◌^◌, ⊎_elim, min, Bool, true, false, not, ◌&&◌, nat_le, if◌then◌else◌, rules, List, ◌++◌}
-use Rattle.std.proofs.Common.{length, get_or, take, drop, Option, Some, None, Result, Ok, Err, bytes_eq, refl, sym, ap, subst, ◌∙◌, arith}
-use Rattle.std.proofs.Math.Seq.{take-append_seam, drop-append_seam}
-use Rattle.std.proofs.lemmas.List.{length-append}
-use Rattle.std.proofs.lemmas.Nat.{from_le_bytes-to_le_bytes_2}
-use Rattle.std.proofs.lemmas.Slice.Eq.{bytes_eq-Decides}
-use Rattle.std.specs.Int.{w16, from_le_bytes}
-use Rattle.sha1.specs.Sha1.{sha1}
-use Rattle.pac_board.specs.MemoryView.{IsWellFormed}
-use Rattle.pac_board.specs.RomParts.{Parts}
-use Rattle.pac_roms_manifest.specs.Sets.{digest_of}
-use Rattle.pac_board.specs.State.{BoardState, BoardValue}
-use Rattle.pac_state.specs.declared.fault.LoadFault.{LoadFault}
-use Rattle.pac_state.specs.declared.fault.LoadFault.TheVariants.{NoState, OtherVersion, Size, OutOfRange, Damaged, OtherSet, NoMemory}
-use Rattle.pac_state.specs.Text.{magic, body, save_text}
-use Rattle.pac_state.specs.Reading.{bytes_at_place, saved_word_at, due_sample, processor_in, state_in}
-use Rattle.pac_state.specs.Saved.{file_size, begins_with_magic, version_in, is_known, is_of_another_version, is_sealed, is_of_set}
-use Rattle.pac_state.specs.Saved.{load_fault, IsStateInRange, AreWritten, IsText, upgraded_board, Misses}
-use Rattle.pac_state.specs.SavedLaws.{ReadsFile}
-use Rattle.pac_state.specs.Files.{FitsSample, IsState, IsFile, board_of_file}
-use Rattle.pac_state.specs.FilesLaws.{AcceptsFile}
+use Rattle.pac_state.proofs.Common.{AcceptsFile, AreWritten, BoardState, BoardValue, Bool, Damaged, Err, FitsSample, IsFile, IsState}
+use Rattle.pac_state.proofs.Common.{IsStateInRange, IsText, IsWellFormed, List, LoadFault, Misses, NoMemory, NoState, None, Ok, Option}
+use Rattle.pac_state.proofs.Common.{OtherSet, OtherVersion, OutOfRange, Parts, ReadsFile, Result, Size, Some, ap, arith, begins_with_magic}
+use Rattle.pac_state.proofs.Common.{board_of_file, body, bytes_at_place, bytes_eq, bytes_eq-Decides, digest_of, drop, drop-append_seam}
+use Rattle.pac_state.proofs.Common.{due_sample, false, file_size, from_le_bytes, from_le_bytes-to_le_bytes_2, get_or, if◌then◌else◌}
+use Rattle.pac_state.proofs.Common.{is_known, is_of_another_version, is_of_set, is_sealed, length, length-append, load_fault, magic, min}
+use Rattle.pac_state.proofs.Common.{nat_le, not, processor_in, refl, rules, save_text, saved_word_at, sha1, state_in, subst, sym, take}
+use Rattle.pac_state.proofs.Common.{take-append_seam, true, upgraded_board, version_in, w16, ℕ, ⊎_elim, ◌&&◌, ◌++◌, ◌<◌, ◌^◌, ◌∙◌, ◌≡◌, ◌≢◌}
 use Rattle.pac_state.proofs.Taken.{below, size-of}
 use Rattle.pac_state.proofs.Whole.{AreBytes, length-part, part-bytes, text-of}
 use Rattle.pac_state.proofs.Written.{has-pieces, length-body, length-sha1}

@@ -1,23 +1,9 @@
 -- Blocks of states: what stands in them, and which bytes are blocks.
-use Rattle.std.proofs.Common.{◌≡◌, ℕ, ◌+◌, ◌<◌, ◌≤◌, List, [], ◌++◌, length, get_or, take, drop, Option, Some, None}
-use Rattle.std.proofs.Common.{refl, sym, ap, subst, ◌∙◌, arith, append_assoc}
-use Rattle.std.proofs.lemmas.List.{length-append, take_all}
-use Rattle.std.proofs.lemmas.Nat.{from_le_bytes-to_le_bytes_2}
-use Rattle.std.specs.Int.{w16, from_le_bytes}
-use Rattle.std.specs.List.{flat_map}
-use Rattle.pac_lemmas.proofs.Pieces.{flat_map-split}
-use Rattle.pac_board.specs.MemoryView.{IsWellFormed}
-use Rattle.pac_board.specs.PictureState.{IsPicture}
-use Rattle.pac_board.specs.BoardFields.{Fields}
-use Rattle.pac_board.specs.State.{BoardState}
-use Rattle.pac_out.specs.Pieces.{joined_pieces}
-use Rattle.pac_state.specs.Text.{file_front, body, written_version}
-use Rattle.pac_state.specs.Reading.{bytes_at_place, state_in}
-use Rattle.pac_state.specs.Saved.{file_size, version_in, IsStateInRange, IsText}
-use Rattle.pac_state.specs.Files.{IsState}
-use Rattle.pac_state.specs.Block.{no_digest, block_text, IsBlock}
-use Rattle.pac_state.specs.BlockProofs.{ReadsBlock}
-use Rattle.pac_state.specs.Framed.{IsFramed, ReadsFields}
+use Rattle.pac_state.proofs.Common.{BoardState, Fields, IsBlock, IsFramed, IsPicture, IsState, IsStateInRange, IsText, IsWellFormed, List}
+use Rattle.pac_state.proofs.Common.{None, Option, ReadsBlock, ReadsFields, Some, [], ap, append_assoc, arith, block_text, body}
+use Rattle.pac_state.proofs.Common.{bytes_at_place, drop, file_front, file_size, flat_map, flat_map-split, from_le_bytes}
+use Rattle.pac_state.proofs.Common.{from_le_bytes-to_le_bytes_2, get_or, joined_pieces, length, length-append, no_digest, refl, state_in}
+use Rattle.pac_state.proofs.Common.{subst, sym, take, take_all, version_in, w16, written_version, ℕ, ◌++◌, ◌+◌, ◌<◌, ◌∙◌, ◌≡◌, ◌≤◌}
 use Rattle.pac_state.proofs.Again.{same-again}
 use Rattle.pac_state.proofs.Files.{sizes}
 use Rattle.pac_state.proofs.Whole.{AreBytes, part-add, body-is}

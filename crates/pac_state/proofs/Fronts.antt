@@ -1,21 +1,10 @@
 -- A block with another front: of a block, and of zeros, the picture of which is black.
-use Rattle.std.proofs.Common.{◌≡◌, ℕ, zero, suc, ◌+◌, ◌-◌, ◌*◌, ◌≤◌, List, [], ◌∷◌, ◌++◌, length, take, drop, replicate, rules}
-use Rattle.std.proofs.Common.{refl, sym, ap, subst, ◌∙◌, arith, append_assoc, append-nil}
-use Rattle.std.proofs.Math.Seq.{drop-append_seam}
-use Rattle.std.proofs.lemmas.Grind.{flat_map-append, common_steps}
-use Rattle.std.proofs.lemmas.List.{length-append, drop-replicate, take-replicate, replicate-append-replicate}
-use Rattle.pac_num.proofs.Tabulated.{tabulate-same}
-use Rattle.pac_num.specs.Tabulate.{tabulate}
-use Rattle.pac_board.specs.MemoryView.{IsWellFormed}
-use Rattle.pac_board.specs.PictureState.{black}
-use Rattle.pac_board.specs.State.{BoardState}
-use Rattle.pac_out.specs.Pieces.{joined_pieces}
-use Rattle.pac_state.specs.Block.{no_digest, block_text, IsBlock}
-use Rattle.pac_state.specs.Files.{IsState}
-use Rattle.pac_state.specs.Fronts.{IsFrontOf}
-use Rattle.pac_state.specs.Reading.{bytes_at_place, lines_of, picture_in, state_in}
-use Rattle.pac_state.specs.Saved.{file_size}
-use Rattle.pac_state.specs.Text.{file_front, body, sealed_file, written_version}
+use Rattle.pac_state.proofs.Common.{BoardState, IsBlock, IsFrontOf, IsState, IsWellFormed, List, [], ap, append-nil, append_assoc, arith}
+use Rattle.pac_state.proofs.Common.{black, block_text, body, bytes_at_place, common_steps, drop, drop-append_seam, drop-replicate}
+use Rattle.pac_state.proofs.Common.{file_front, file_size, flat_map-append, joined_pieces, length, length-append, lines_of, no_digest}
+use Rattle.pac_state.proofs.Common.{picture_in, refl, replicate, replicate-append-replicate, rules, sealed_file, state_in, subst, suc, sym}
+use Rattle.pac_state.proofs.Common.{tabulate, tabulate-same, take, take-replicate, written_version, zero, ℕ, ◌*◌, ◌++◌, ◌+◌, ◌-◌, ◌∙◌, ◌∷◌}
+use Rattle.pac_state.proofs.Common.{◌≡◌, ◌≤◌}
 use Rattle.pac_state.proofs.Files.{sizes}
 use Rattle.pac_state.proofs.Written.{length-front, length-body, length-sha1}
 

@@ -1,3 +1,4 @@
+pub mod Common
 pub mod Again
 pub mod Chunks
 pub mod Files

@@ -1,9 +1,5 @@
 -- A state that is put together of its parts.
-use Rattle.std.proofs.Common.{◌≡◌, ℕ, List, refl}
-use Rattle.pac_board.specs.Regs.{Regs}
-use Rattle.pac_board.specs.MemoryView.{View}
-use Rattle.pac_board.specs.Due.{Due}
-use Rattle.pac_board.specs.State.{BoardState}
+use Rattle.pac_state.proofs.Common.{BoardState, Due, List, Regs, View, refl, ℕ, ◌≡◌}
 
 abbrev pub state : Regs → View → (first second third : ℕ) → List (List ℕ) → (time steps asked : ℕ) → Due → BoardState
 state regs memory first second third lines time steps asked due = record {

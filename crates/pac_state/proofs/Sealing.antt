@@ -1,12 +1,6 @@
 -- A state's text put into a new file.
-use Rattle.std.proofs.Common.{◌≡◌, ℕ, List, [], Result, Ok, Err, rules}
-use Rattle.std.specs.Borrow.{MutBor}
-use Rattle.pac_out.specs.declared.counted.Counted.{Counted}
-use Rattle.pac_out.specs.declared.WriteFault.{WriteFault}
-use Rattle.pac_out.specs.CountedLaws.{HasTaken}
-use Rattle.pac_out.specs.CountedProofs.{Puts}
-use Rattle.pac_out.specs.WritesProofs.{lent_took, lent_refused}
-use Rattle.pac_state.specs.Saves.{Saves}
+use Rattle.pac_state.proofs.Common.{Counted, Err, HasTaken, List, MutBor, Ok, Puts, Result, Saves, WriteFault, [], lent_refused, lent_took}
+use Rattle.pac_state.proofs.Common.{rules, ℕ, ◌≡◌}
 
 -- a text that was put into a new file over a writer that is lent and then handed back, and that writer when the loan ends
 pub saves : {W A : Type 0} (took : W → List ℕ → W → Type 0) (refused : W → W → Type 0) {owner : MutBor W} {file : Counted (MutBor W)}

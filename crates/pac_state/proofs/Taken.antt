@@ -1,11 +1,6 @@
 -- What is known of a file that was looked at.
-use Rattle.std.proofs.Common.{◌≡◌, ℕ, Bool, true, not, if◌then◌else◌, arith, rules, List, length, Option, Some, None}
-use Rattle.std.proofs.lemmas.Bool.{eqb-true}
-use Rattle.pac_board.specs.BoardFields.{Fields}
-use Rattle.pac_board.specs.Fields.{state_of, AreBoardFields}
-use Rattle.pac_board.specs.State.{BoardState}
-use Rattle.pac_state.specs.declared.fault.LoadFault.{LoadFault}
-use Rattle.pac_state.specs.Saved.{file_size, load_fault, IsStateInRange}
+use Rattle.pac_state.proofs.Common.{AreBoardFields, BoardState, Bool, Fields, IsStateInRange, List, LoadFault, None, Option, Some, arith}
+use Rattle.pac_state.proofs.Common.{eqb-true, file_size, if◌then◌else◌, length, load_fault, not, rules, state_of, true, ℕ, ◌≡◌}
 
 -- the rest of a search that finds nothing
 pub below : (found : Bool) (fault : LoadFault) (rest : Option LoadFault) → (if found then Some fault else rest) ≡ None → rest ≡ None

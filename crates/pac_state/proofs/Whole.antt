@@ -1,22 +1,12 @@
 -- A file whose fields stand as they are written is the text of its state.
-use Rattle.std.proofs.Common.{◌≡◌, ℕ, zero, suc, ◌+◌, ◌*◌, ◌<◌, ◌≤◌, ◌==◌, min, not, List, [], ◌∷◌, ◌++◌, length, get_or, take, drop, None}
-use Rattle.std.proofs.Common.{refl, sym, ap, subst, ◌∙◌, arith, append-nil}
-use Rattle.std.proofs.Math.Seq.{take-add}
-use Rattle.std.proofs.lemmas.List.{drop-drop, length-take-le, length-drop, take_all, get_or-drop, take-append-drop}
-use Rattle.std.proofs.lemmas.Grind.{flat_map-append}
-use Rattle.std.proofs.lemmas.Nat.{le_bytes_2, le_bytes_4, le_bytes_8}
-use Rattle.std.proofs.lemmas.Slice.Eq.{bytes_eq-Decides}
-use Rattle.std.specs.Int.{w16, w32, w64, from_le_bytes}
-use Rattle.sha1.specs.Sha1.{sha1}
-use Rattle.pac_num.specs.Tabulate.{tabulate}
-use Rattle.pac_board.specs.RomParts.{Parts}
-use Rattle.pac_roms_manifest.specs.Sets.{digest_of}
-use Rattle.pac_state.specs.declared.fault.LoadFault.TheVariants.{NoState, OtherVersion, Size, Damaged, OtherSet}
-use Rattle.pac_out.specs.Pieces.{joined_pieces}
-use Rattle.pac_state.specs.Text.{magic, saved_word, saved_double_word, saved_long_word, head, ram, devices, file_front, body, save_text}
-use Rattle.pac_state.specs.Reading.{bytes_at_place, lines_of, picture_in, state_in}
-use Rattle.pac_state.specs.Saved.{begins_with_magic, is_of_another_version, is_sealed, is_of_set, load_fault, file_size, body_size}
-use Rattle.pac_state.specs.Saved.{version_in, AreWritten}
+use Rattle.pac_state.proofs.Common.{AreWritten, Damaged, List, NoState, None, OtherSet, OtherVersion, Parts, Size, [], ap, append-nil}
+use Rattle.pac_state.proofs.Common.{arith, begins_with_magic, body, body_size, bytes_at_place, bytes_eq-Decides, devices, digest_of, drop}
+use Rattle.pac_state.proofs.Common.{drop-drop, file_front, file_size, flat_map-append, from_le_bytes, get_or, get_or-drop, head}
+use Rattle.pac_state.proofs.Common.{is_of_another_version, is_of_set, is_sealed, joined_pieces, le_bytes_2, le_bytes_4, le_bytes_8, length}
+use Rattle.pac_state.proofs.Common.{length-drop, length-take-le, lines_of, load_fault, magic, min, not, picture_in, ram, refl, save_text}
+use Rattle.pac_state.proofs.Common.{saved_double_word, saved_long_word, saved_word, sha1, state_in, subst, suc, sym, tabulate, take}
+use Rattle.pac_state.proofs.Common.{take-add, take-append-drop, take_all, version_in, w16, w32, w64, zero, ℕ, ◌*◌, ◌++◌, ◌+◌, ◌<◌, ◌==◌}
+use Rattle.pac_state.proofs.Common.{◌∙◌, ◌∷◌, ◌≡◌, ◌≤◌}
 use Rattle.pac_state.proofs.Taken.{below, tested, size-of}
 
 -- ---- parts of a list

@@ -1,19 +1,10 @@
 -- The text of a state: each piece of it stands at its place, and its digest after it.
-use Rattle.std.proofs.Common.{◌≡◌, ℕ, zero, suc, ◌+◌, ◌*◌, ◌<◌, ◌≤◌, List, [], ◌∷◌, ◌++◌, length, get_or, take, drop}
-use Rattle.std.proofs.Common.{refl, sym, ap, subst, ◌∙◌, arith, append_assoc}
-use Rattle.std.proofs.Math.Seq.{take-append_seam, drop-append_seam}
-use Rattle.std.proofs.lemmas.List.{length-append, take_all}
-use Rattle.std.proofs.lemmas.Grind.{flat_map-append, common_steps}
-use Rattle.sha1.specs.Sha1.{sha1, digest_bytes}
-use Rattle.pac_board.proofs.Tabulated.{tabulate-is}
-use Rattle.pac_lemmas.proofs.Pieces.{flat_map-one-more, flat_map-split}
-use Rattle.pac_board.specs.MemoryView.{IsWellFormed}
-use Rattle.pac_board.specs.PictureState.{IsPicture}
-use Rattle.pac_board.specs.State.{BoardState}
-use Rattle.pac_out.specs.Pieces.{joined_pieces}
-use Rattle.pac_state.specs.Text.{magic, saved_word, saved_double_word, saved_long_word, head, ram}
-use Rattle.pac_state.specs.Text.{devices, processor_bytes, control_bytes, due_bytes, file_front, body, sealed_file, written_version}
-use Rattle.pac_state.specs.Reading.{bytes_at_place, lines_of}
+use Rattle.pac_state.proofs.Common.{BoardState, IsPicture, IsWellFormed, List, [], ap, append_assoc, arith, body, bytes_at_place}
+use Rattle.pac_state.proofs.Common.{common_steps, control_bytes, devices, digest_bytes, drop, drop-append_seam, due_bytes, file_front}
+use Rattle.pac_state.proofs.Common.{flat_map-append, flat_map-one-more, flat_map-split, get_or, head, joined_pieces, length, length-append}
+use Rattle.pac_state.proofs.Common.{lines_of, magic, processor_bytes, ram, refl, saved_double_word, saved_long_word, saved_word}
+use Rattle.pac_state.proofs.Common.{sealed_file, sha1, subst, suc, sym, tabulate-is, take, take-append_seam, take_all, written_version}
+use Rattle.pac_state.proofs.Common.{zero, ℕ, ◌*◌, ◌++◌, ◌+◌, ◌<◌, ◌∙◌, ◌∷◌, ◌≡◌, ◌≤◌}
 use Rattle.pac_state.proofs.Whole.{cut, total}
 
 -- ---- pieces of a text, cut out of it

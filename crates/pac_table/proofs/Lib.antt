@@ -1,3 +1,4 @@
+pub mod Common
 pub mod TableRules
 pub mod Uniqueness
 pub mod Lengths

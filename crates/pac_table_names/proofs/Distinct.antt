@@ -1,16 +1,8 @@
 -- The names of operations are distinct, and all that are found.
-use Rattle.std.proofs.Common.{◌≡◌, ℕ, Bool, true, not, ◌==◌, List, length, map, find, refl, sym, ◌∙◌, ap}
-use Rattle.std.specs.Prelude.{Option, Some, None, is_some}
-use Rattle.std.specs.List.{list_all, list_any}
-use Rattle.pac_lemmas.proofs.Distinct.{is_distinct, distinct-by-test}
-use Rattle.pac_lemmas.proofs.Searches.{find-passes, list_any-find, list_any-map}
-use Rattle.pac_table.specs.Table.{table}
-use Rattle.pac_table_names.specs.declared.by_name.Word.{Word}
-use Rattle.pac_table_names.specs.Names.{is_written, is_operation}
-use Rattle.pac_table_names.specs.ByName.{rows_named, family_value}
-use Rattle.pac_table_names.specs.Words.{operation_names}
-use Rattle.pac_table_names.specs.WordsProofs.{row_list, word_list, letters_of, is_text, rows_of}
-use Rattle.pac_table_names.specs.Distinct.{OperationNamesAreDistinct}
+use Rattle.pac_table_names.proofs.Common.{Bool, List, None, OperationNamesAreDistinct, Option, Some, Word, ap, distinct-by-test}
+use Rattle.pac_table_names.proofs.Common.{family_value, find, find-passes, is_distinct, is_operation, is_some, is_text, is_written, length}
+use Rattle.pac_table_names.proofs.Common.{letters_of, list_all, list_any, list_any-find, list_any-map, map, not, operation_names, refl}
+use Rattle.pac_table_names.proofs.Common.{row_list, rows_named, rows_of, sym, table, true, word_list, ℕ, ◌==◌, ◌∙◌, ◌≡◌}
 use Rattle.pac_table_names.proofs.Index.{found-rows, rows-none, operation-has-rows}
 
 -- ---- names that a test finds distinct

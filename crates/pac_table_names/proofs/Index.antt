@@ -1,33 +1,17 @@
 -- The index of names finds the rows that a search of the whole table finds: what is computed over the index and the
 -- table, and that names are found by their first letter.
-use Rattle.std.proofs.Common.{◌≡◌, ℕ, zero, suc, ◌+◌, ◌-◌, ◌<◌, ◌≤◌, Bool, true, false, not, ◌&&◌, ◌==◌, nat_lt, nat_le, ◌||◌}
-use Rattle.std.proofs.Common.{if◌then◌else◌}
-use Rattle.std.proofs.Common.{List, [], ◌∷◌, length, map, take, get_or, slice_index, slice_range, slice_get, refl, sym, ◌∙◌, ap, subst}
-use Rattle.std.proofs.Common.{arith, inl, inr, find}
-use Rattle.std.specs.Prelude.{Option, Some, None, is_some, position}
-use Rattle.std.specs.Option.{unwrap_or, option_or}
-use Rattle.std.specs.List.{list_all, list_any, filter, range_with_len}
-use Rattle.std.specs.Str.{bytes_eq, str_to_ascii_lowercase}
-use Rattle.std.specs.Char.{to_ascii_lowercase, to_ascii_uppercase, is_ascii_uppercase}
-use Rattle.std.proofs.lemmas.Bool.{and_parts, cases_Bool, cond-true, cond-false, eqb-true, agree_below, agree_below_at, false≢true}
-use Rattle.std.proofs.lemmas.Bool.{leb-true, ltb-true}
-use Rattle.std.proofs.lemmas.Slice.Eq.{bytes_eq-Decides}
-use Rattle.std.proofs.lemmas.Bool.Decides.{nat_tests}
-use Rattle.std.proofs.lemmas.List.FromFn.{get_or-map-range_with_len}
-use Rattle.pac_lemmas.proofs.Letters.{same-first-letter}
-use Rattle.pac_lemmas.proofs.Options.{none-parts}
-use Rattle.pac_lemmas.proofs.Searches.{find-filter, find-passes, position-all-fail, list_all-get_or}
-use Rattle.pac_table.specs.declared.operands.Mnemonic.{Mnemonic}
+use Rattle.pac_table_names.proofs.Common.{AreNamed, Bool, List, Mnemonic, None, Option, Row, Some, Word, [], agree_below, agree_below_at}
+use Rattle.pac_table_names.proofs.Common.{and_parts, ap, arith, begins_with, bytes_eq, bytes_eq-Decides, cases_Bool, cond-false, cond-true}
+use Rattle.pac_table_names.proofs.Common.{eqb-true, false, false≢true, family_in, family_value, filter, find, find-filter, find-passes}
+use Rattle.pac_table_names.proofs.Common.{get_or, get_or-map-range_with_len, if◌then◌else◌, inl, inr, is_ascii_uppercase, is_name_at}
+use Rattle.pac_table_names.proofs.Common.{is_operation, is_some, is_text, is_written, leb-true, length, letter_list, letters_of, list_all}
+use Rattle.pac_table_names.proofs.Common.{list_all-get_or, list_any, ltb-true, map, names_of, nat_le, nat_lt, nat_tests, none-parts, not}
+use Rattle.pac_table_names.proofs.Common.{operation_names, option_or, position, position-all-fail, range_with_len, refl, row_at, row_count}
+use Rattle.pac_table_names.proofs.Common.{row_list, rows_named, rows_named_from, rows_of, same-first-letter, slice_get, slice_index}
+use Rattle.pac_table_names.proofs.Common.{slice_range, str_to_ascii_lowercase, subst, suc, sym, table, take, to_ascii_lowercase}
+use Rattle.pac_table_names.proofs.Common.{to_ascii_uppercase, true, unwrap_or, value_named, word_list, zero, ℕ, ◌&&◌, ◌+◌, ◌-◌, ◌<◌, ◌==◌}
+use Rattle.pac_table_names.proofs.Common.{◌||◌, ◌∙◌, ◌∷◌, ◌≡◌, ◌≤◌}
 use Rattle.pac_table.specs.declared.operands.Mnemonic.TheVariants as mnemonic
-use Rattle.pac_table_names.specs.declared.by_name.Word.{Word}
-use Rattle.pac_table.specs.declared.table.Row.{Row}
-use Rattle.pac_table.specs.Table.{table}
-use Rattle.pac_table.specs.Instructions.{row_count, row_at}
-use Rattle.pac_table.specs.Mnemonics.{names_of}
-use Rattle.pac_table_names.specs.Names.{is_written, is_name_at, value_named, is_operation}
-use Rattle.pac_table_names.specs.ByName.{rows_named_from, rows_named, family_value, family_in, AreNamed}
-use Rattle.pac_table_names.specs.Words.{operation_names}
-use Rattle.pac_table_names.specs.WordsProofs.{row_list, word_list, letter_list, letters_of, begins_with, is_text, rows_of}
 
 -- ---- what is found in a list
 

@@ -1,12 +1,6 @@
 -- The names of registers, pairs and conditions are found by their first letter.
-use Rattle.std.proofs.Common.{◌≡◌, ℕ, true, List, [], ◌∷◌, find, slice_get, refl, ◌∙◌, ap}
-use Rattle.std.specs.Prelude.{Some, None}
-use Rattle.std.specs.List.{filter}
-use Rattle.pac_lemmas.proofs.Letters.{same-first-letter}
-use Rattle.pac_lemmas.proofs.Searches.{find-filter}
-use Rattle.pac_table.specs.declared.operands.Name.{Name}
-use Rattle.pac_table_names.specs.Names.{is_written, text_of_name, name_of}
-use Rattle.pac_table_names.specs.WordsProofs.{begins_name, every_name}
+use Rattle.pac_table_names.proofs.Common.{List, Name, None, Some, [], ap, begins_name, every_name, filter, find, find-filter, is_written}
+use Rattle.pac_table_names.proofs.Common.{name_of, refl, same-first-letter, slice_get, text_of_name, true, ℕ, ◌∙◌, ◌∷◌, ◌≡◌}
 
 written-begins : (b : ℕ) (rest : List ℕ) (some : Name) → is_written (b ∷ rest) (text_of_name some) ≡ true → begins_name b some ≡ true
 written-begins b rest some is = same-first-letter b rest (text_of_name some) is

@@ -1,3 +1,4 @@
+pub mod Common
 pub mod Index
 pub mod Distinct
 pub mod Longer

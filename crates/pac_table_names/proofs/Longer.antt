@@ -1,18 +1,9 @@
 -- A word that is longer than all names is none of them.
-use Rattle.std.proofs.Common.{◌≡◌, ℕ, ◌<◌, ◌≤◌, true, false, nat_le, List, [], ◌∷◌, length, find, refl, sym, ◌∙◌, ap, arith, inl, inr}
-use Rattle.std.specs.Prelude.{Some, None}
-use Rattle.std.specs.List.{list_all}
-use Rattle.std.specs.Str.{str_to_ascii_lowercase}
-use Rattle.std.specs.Char.{to_ascii_lowercase}
-use Rattle.std.proofs.lemmas.Bool.{and_parts, cases_Bool, cond-false, leb-true}
-use Rattle.std.proofs.lemmas.List.{length-map}
-use Rattle.std.proofs.lemmas.Slice.Eq.{bytes_eq-Decides}
-use Rattle.pac_table.specs.Table.{table}
-use Rattle.pac_table_names.specs.Names.{is_written, text_of_name, name_of}
+use Rattle.pac_table_names.proofs.Common.{List, None, Some, [], and_parts, ap, arith, bytes_eq-Decides, cases_Bool, cond-false, every_name}
+use Rattle.pac_table_names.proofs.Common.{false, family_value, find, inl, inr, is_text, is_written, leb-true, length, length-map}
+use Rattle.pac_table_names.proofs.Common.{letters_of, list_all, name_of, nat_le, operation_names, refl, rows_named, str_to_ascii_lowercase}
+use Rattle.pac_table_names.proofs.Common.{sym, table, text_of_name, to_ascii_lowercase, true, word_list, ℕ, ◌<◌, ◌∙◌, ◌∷◌, ◌≡◌, ◌≤◌}
 use Rattle.pac_table_names.proofs.Letters.{name-found}
-use Rattle.pac_table_names.specs.ByName.{rows_named, family_value}
-use Rattle.pac_table_names.specs.Words.{operation_names}
-use Rattle.pac_table_names.specs.WordsProofs.{every_name, word_list, letters_of, is_text}
 
 pub not-longer : (word name : List ℕ) (most : ℕ) → length name ≤ most → most < length word → is_written word name ≡ false
 not-longer word name most within longer =

@@ -1,5 +1,4 @@
 use Rattle.pac_dis.proofs.Lengths.{text-shown, text-fits}
-use Rattle.pac_dis.proofs.texts_fit.Goals as goal
 
-pub returns : goal.returns
+pub returns : Rattle.pac_dis.proofs.texts_fit.Goals.returns
 returns c = λ at i is. (text-shown at i is, text-fits at i is)

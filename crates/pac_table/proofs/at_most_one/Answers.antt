@@ -1,5 +1,4 @@
 use Rattle.pac_table.proofs.Uniqueness.{one-row}
-use Rattle.pac_table.proofs.at_most_one.Goals as goal
 
-pub returns : goal.returns
+pub returns : Rattle.pac_table.proofs.at_most_one.Goals.returns
 returns c = one-row

@@ -1,8 +1,6 @@
-use Rattle.std.proofs.Common.{refl}
-use Rattle.pac_table.specs.Table.{table}
-use Rattle.pac_table.proofs.opcode_counts.Goals as goal
+use Rattle.pac_table.proofs.Common.{refl, table}
 
-pub returns : goal.returns
+pub returns : Rattle.pac_table.proofs.opcode_counts.Goals.returns
 unfolding table
 returns c =
     record {

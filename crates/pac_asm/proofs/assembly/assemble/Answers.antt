@@ -1,12 +1,5 @@
-use Rattle.std.proofs.Common.{◌≡◌, List, [], Some, Ok, Result, IfOk, sym, subst, arith, rules}
-use Rattle.std.specs.Str.Lines.{lines}
-use Rattle.pac_asm_program.specs.Names.{Symbol, number_of_symbol}
-use Rattle.pac_asm_program.specs.Programs.{Assembled}
-use Rattle.pac_asm.specs.Assignments.{first_spot}
-use Rattle.pac_asm.specs.Entries.{entries_in}
-use Rattle.pac_asm.specs.Errors.{AssemblyGives}
-use Rattle.pac_asm.specs.Phase2.{phase2}
-use Rattle.pac_asm.specs.declared.fault.AsmError.{AsmError}
+use Rattle.pac_asm.proofs.Common.{AsmError, Assembled, AssemblyGives, IfOk, List, Ok, Result, Some, Symbol, [], arith, entries_in}
+use Rattle.pac_asm.proofs.Common.{first_spot, lines, number_of_symbol, phase2, rules, subst, sym, ◌≡◌}
 use Rattle.pac_asm.proofs.Assigned.{symbols-are-right}
 use Rattle.pac_asm.proofs.Entered.{has-entries}
 use Rattle.pac_asm.proofs.Sizes.{all-fit}

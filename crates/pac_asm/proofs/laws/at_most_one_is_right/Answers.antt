@@ -1,5 +1,4 @@
 use Rattle.pac_asm.proofs.Unique.{at-most-one-is-right}
-use Rattle.pac_asm.proofs.laws.at_most_one_is_right.Goals as goal
 
-pub returns : goal.returns
+pub returns : Rattle.pac_asm.proofs.laws.at_most_one_is_right.Goals.returns
 returns c = at-most-one-is-right

@@ -1,5 +1,4 @@
 use Rattle.pac_asm.proofs.Assigned.{symbols-are-right}
-use Rattle.pac_asm.proofs.laws.symbols_are_right.Goals as goal
 
-pub returns : goal.returns
+pub returns : Rattle.pac_asm.proofs.laws.symbols_are_right.Goals.returns
 returns c = symbols-are-right

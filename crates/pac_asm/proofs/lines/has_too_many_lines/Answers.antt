@@ -1,6 +1,4 @@
-use Rattle.std.proofs.Common.{length, sym, arith, rules}
-use Rattle.std.specs.Str.Lines.{lines}
-use Rattle.std.proofs.lemmas.Bool.{lt-ltb}
+use Rattle.pac_asm.proofs.Common.{arith, length, lines, lt-ltb, rules, sym}
 use Rattle.pac_asm.proofs.lines.has_too_many_lines.Goals as goal
 
 pub returns-in-None : goal.returns-in-None

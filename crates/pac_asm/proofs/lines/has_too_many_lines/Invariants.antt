@@ -1,6 +1,4 @@
-use Rattle.std.proofs.Common.{◌≡◌, ◌+◌, length}
-use Rattle.std.specs.Str.Lines.{lines}
-use Rattle.pac_asm.proofs.lines.has_too_many_lines.Given as goal
+use Rattle.pac_asm.proofs.Common.{length, lines, ◌+◌, ◌≡◌}
 
-abbrev pub invariant-loop : goal.invariant-loop
+abbrev pub invariant-loop : Rattle.pac_asm.proofs.lines.has_too_many_lines.Given.invariant-loop
 invariant-loop l = l.counter + length (lines l.rest) ≡ length (lines l.source)

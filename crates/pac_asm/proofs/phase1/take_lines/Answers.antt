@@ -1,5 +1,4 @@
-use Rattle.std.proofs.Common.{arith, rules}
-use Rattle.std.proofs.lemmas.Result.{err_from_is_err_and}
+use Rattle.pac_asm.proofs.Common.{arith, err_from_is_err_and, rules}
 use Rattle.pac_asm.proofs.Laying.{onward, ends, finished}
 use Rattle.pac_asm.proofs.phase1.take_lines.Goals as goal
 

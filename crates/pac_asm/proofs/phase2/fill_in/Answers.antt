@@ -1,8 +1,5 @@
-use Rattle.std.proofs.Common.{[], sym, subst, inl, arith, rules}
-use Rattle.std.specs.Str.Lines.{lines}
-use Rattle.pac_asm.specs.Errors.{AssemblyFails}
+use Rattle.pac_asm.proofs.Common.{AsmError, AssemblyFails, [], arith, inl, lines, rules, subst, sym}
 use Rattle.pac_asm.specs.Phase2 as spec
-use Rattle.pac_asm.specs.declared.fault.AsmError.{AsmError}
 use Rattle.pac_asm.proofs.Filling.{onward, ends, finished}
 use Rattle.pac_asm.proofs.phase2.fill_in.Goals as goal
 use Rattle.pac_asm.proofs.phase2.fill_in.Goals.{in-Some+in_default-first_place, in_default}

@@ -1,5 +1,4 @@
-use Rattle.std.proofs.Common.{rules, ◌∙◌, sym}
-use Rattle.pac_lex.specs.Bytes.{after_gap}
+use Rattle.pac_asm_line.proofs.Common.{after_gap, rules, sym, ◌∙◌}
 use Rattle.pac_asm_line.proofs.FirstByte.{nothing-first, other-first}
 use Rattle.pac_asm_line.proofs.conditional.conditional_of.Goals as goal
 

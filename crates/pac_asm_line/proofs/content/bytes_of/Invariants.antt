@@ -1,8 +1,5 @@
-use Rattle.std.proofs.Common.{◌≡◌, length, map}
-use Rattle.pac_asm_line.specs.Contents.{gathered_bytes, joined_bytes, part_bytes}
-use Rattle.pac_asm_line.specs.Gathered.{gathered_so_far}
-use Rattle.pac_asm_line.specs.Views.{part_of_tokens, parts_of_operands}
-use Rattle.pac_asm_operation.specs.OperandsProofs.{parts_after}
+use Rattle.pac_asm_line.proofs.Common.{gathered_bytes, gathered_so_far, joined_bytes, length, map, part_bytes, part_of_tokens, parts_after}
+use Rattle.pac_asm_line.proofs.Common.{parts_of_operands, ◌≡◌}
 use Rattle.pac_asm_line.proofs.content.bytes_of.Given as goal
 
 abbrev pub invariant-loop-rest : goal.invariant-loop-rest

@@ -1,14 +1,8 @@
-use Rattle.std.proofs.Common.{◌≡◌, ◌<◌, List, ◌∷◌, ◌∙◌, IfSome, length, ap, subst, sym}
-use Rattle.std.specs.List.{slice_split}
-use Rattle.pac_lex.specs.Tokens.{Lexeme}
-use Rattle.pac_lex.specs.TokensProofs.{views}
-use Rattle.pac_asm_operation.specs.Operands.{each_or_none, is_comma}
-use Rattle.pac_asm_operation.specs.OperandsProofs.{parts_after}
-use Rattle.pac_asm_operation.specs.Reserved.{expression_in}
+use Rattle.pac_asm_line.proofs.Common.{IfSome, Lexeme, List, ap, each_or_none, expression_in, is_comma, length, parts_after, slice_split}
+use Rattle.pac_asm_line.proofs.Common.{subst, sym, views, ◌<◌, ◌∙◌, ◌∷◌, ◌≡◌}
 use Rattle.pac_asm_line.proofs.Parts.{split-some, too-many}
-use Rattle.pac_asm_line.proofs.directed.last_expression.Goals as goal
 
-pub returns-in-Some : goal.returns-in-Some
+pub returns-in-Some : Rattle.pac_asm_line.proofs.directed.last_expression.Goals.returns-in-Some
 returns-in-Some c =
     let first = views c.next_part.result.0.now in
     let last = views c.in-Some.field-0.now in

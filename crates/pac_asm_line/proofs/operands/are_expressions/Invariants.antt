@@ -1,9 +1,4 @@
-use Rattle.std.proofs.Common.{◌≡◌, is_some, length}
-use Rattle.std.specs.List.{list_all, slice_split}
-use Rattle.pac_lex.specs.TokensProofs.{views}
-use Rattle.pac_asm_operation.specs.Operands.{is_comma}
-use Rattle.pac_asm_operation.specs.OperandsProofs.{parts_after}
-use Rattle.pac_asm_operation.specs.Reserved.{expression_in}
+use Rattle.pac_asm_line.proofs.Common.{expression_in, is_comma, is_some, length, list_all, parts_after, slice_split, views, ◌≡◌}
 use Rattle.pac_asm_line.proofs.operands.are_expressions.Given as goal
 
 abbrev pub invariant-loop-rest : goal.invariant-loop-rest

@@ -1,9 +1,4 @@
-use Rattle.std.proofs.Common.{◌≡◌, is_some, length}
-use Rattle.std.specs.List.{list_all, slice_split}
-use Rattle.pac_lex.specs.TokensProofs.{views}
-use Rattle.pac_asm_operation.specs.Operands.{is_comma}
-use Rattle.pac_asm_operation.specs.OperandsProofs.{parts_after}
-use Rattle.pac_asm_line.specs.Forms.{part_in}
+use Rattle.pac_asm_line.proofs.Common.{is_comma, is_some, length, list_all, part_in, parts_after, slice_split, views, ◌≡◌}
 use Rattle.pac_asm_line.proofs.operands.are_parts.Given as goal
 
 abbrev pub invariant-loop-rest : goal.invariant-loop-rest

@@ -1,8 +1,4 @@
-use Rattle.std.proofs.Common.{◌≡◌, ◌≤◌, ◌+◌, length, map, min}
-use Rattle.std.specs.List.{sum_by}
-use Rattle.pac_asm_line.specs.Contents.{part_size}
-use Rattle.pac_asm_line.specs.Views.{part_of_tokens, parts_of_operands}
-use Rattle.pac_asm_operation.specs.OperandsProofs.{parts_after}
+use Rattle.pac_asm_line.proofs.Common.{length, map, min, part_of_tokens, part_size, parts_after, parts_of_operands, sum_by, ◌+◌, ◌≡◌, ◌≤◌}
 use Rattle.pac_asm_line.proofs.operands.bytes_size.Given as goal
 
 abbrev pub invariant-loop-rest : goal.invariant-loop-rest

@@ -1,6 +1,4 @@
-use Rattle.std.proofs.Common.{◌≡◌, ◌≤◌, ◌+◌, ◌*◌, length, map, min}
-use Rattle.pac_asm_line.specs.Views.{spelled_tree, trees_of}
-use Rattle.pac_asm_operation.specs.OperandsProofs.{parts_after}
+use Rattle.pac_asm_line.proofs.Common.{length, map, min, parts_after, spelled_tree, trees_of, ◌*◌, ◌+◌, ◌≡◌, ◌≤◌}
 use Rattle.pac_asm_line.proofs.operands.words_size.Given as goal
 
 abbrev pub invariant-loop-rest : goal.invariant-loop-rest

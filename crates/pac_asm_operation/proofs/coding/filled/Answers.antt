@@ -1,5 +1,4 @@
-use Rattle.std.proofs.Common.{arith}
-use Rattle.pac_asm_operation.specs.Kept.{as_instruction}
+use Rattle.pac_asm_operation.proofs.Common.{arith, as_instruction}
 use Rattle.pac_asm_operation.proofs.FilledParts.{none-filled, one-filled, two-filled}
 use Rattle.pac_asm_operation.proofs.coding.filled.Goals as goal
 

@@ -1,15 +1,10 @@
+use Rattle.pac_asm_operation.proofs.Common.{IfSome, Instruction, IsInstruction, arith, as_instruction, holds, ints, row_at, rules, subst}
+use Rattle.pac_asm_operation.proofs.Common.{sym, to_z-of_z, with_row_number, ◌≡◌}
 use mir.Val.{to_z, of_z}
 use mir.Syntax.{w8}
-use Rattle.std.proofs.Common.{◌≡◌, sym, subst, arith, rules}
-use Rattle.std.specs.Prelude.{IfSome}
-use Rattle.std.proofs.lemmas.Int.{ints, to_z-of_z}
-use Rattle.pac_table.specs.Instructions.{Instruction, IsInstruction, row_at}
-use Rattle.pac_asm_operation.specs.Operations.{holds}
-use Rattle.pac_asm_operation.specs.Kept.{as_instruction, with_row_number}
 use Rattle.pac_asm_operation.proofs.Held.{held-instruction, instruction-held, picked}
-use Rattle.pac_asm_operation.proofs.coding.made.Goals as goal
 
-pub returns : goal.returns
+pub returns : Rattle.pac_asm_operation.proofs.coding.made.Goals.returns
 returns c =
     let parts = c.args.parts.now in
     let n = c.args.row in

@@ -1,6 +1,4 @@
-use Rattle.std.proofs.Common.{sym, ◌∙◌}
-use Rattle.pac_asm_operation.specs.Views.{operand_pair}
-use Rattle.pac_asm_operation.specs.Kept.{parts_in_row, suits_row}
+use Rattle.pac_asm_operation.proofs.Common.{operand_pair, parts_in_row, suits_row, sym, ◌∙◌}
 use Rattle.pac_asm_operation.proofs.RowSearch.{found-placed, more-placed}
 use Rattle.pac_asm_operation.proofs.coding.placed.Goals as goal
 

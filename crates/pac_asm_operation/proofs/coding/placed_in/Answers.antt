@@ -1,13 +1,7 @@
-use Rattle.std.proofs.Common.{◌≡◌, ℕ, pos, Bool, ◌==◌, if◌then◌else◌, List, Some, None, sym, ◌∙◌, ap, arith, rules}
-use Rattle.std.proofs.lemmas.Bool.{eq-eqb}
-use Rattle.pac_table.specs.declared.operands.Shape.{Shape}
-use Rattle.pac_table.specs.declared.table.Row.{Row}
-use Rattle.pac_table.specs.Instructions.{Instruction, row_at}
-use Rattle.pac_table_names.specs.Names.{written_operands}
-use Rattle.pac_table_names.specs.ByName.{family_in}
-use Rattle.pac_asm_operation.specs.Operations.{row_size, fits_as, all_take, holds, parts_as}
-use Rattle.pac_asm_operation.specs.Views.{operand_pair}
-use Rattle.pac_asm_operation.specs.Kept.{as_instruction, with_row_number}
+use Rattle.pac_asm_operation.proofs.Common.{Bool, Instruction, List, Row, Shape, all_take, ap, arith, as_instruction, eq-eqb, family_in}
+use Rattle.pac_asm_operation.proofs.Common.{fits_as, holds, if◌then◌else◌, operand_pair, parts_as, pos, row_at, row_size, rules, sym}
+use Rattle.pac_asm_operation.proofs.Common.{with_row_number, written_operands, ℕ, ◌==◌, ◌∙◌, ◌≡◌}
+use Rattle.std.proofs.Common.{Some, None}
 use Rattle.pac_asm_operation.proofs.FilledParts.{all_taken}
 use Rattle.pac_asm_operation.proofs.Held.{suited, unsuited}
 use Rattle.pac_asm_operation.proofs.coding.placed_in.Goals as goal

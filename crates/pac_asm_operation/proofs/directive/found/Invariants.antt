@@ -1,9 +1,6 @@
-use Rattle.std.proofs.Common.{◌≡◌, map, drop}
-use Rattle.std.specs.Map.{lookup}
-use Rattle.std.specs.Str.{str_eq_ignore_ascii_case}
-use Rattle.pac_asm_operation.proofs.directive.found.Given as goal
+use Rattle.pac_asm_operation.proofs.Common.{drop, lookup, map, str_eq_ignore_ascii_case, ◌≡◌}
 
-abbrev pub invariant-loop-name : goal.invariant-loop-name
+abbrev pub invariant-loop-name : Rattle.pac_asm_operation.proofs.directive.found.Given.invariant-loop-name
 invariant-loop-name l =
     lookup (str_eq_ignore_ascii_case l.word) (map (λ entry. (entry.0.now, entry.1)) (drop l.name-index l.names))
     ≡ lookup (str_eq_ignore_ascii_case l.word) (map (λ entry. (entry.0.now, entry.1)) l.names)

@@ -1,8 +1,6 @@
-use Rattle.std.proofs.Common.{◌≡◌, find, drop}
-use Rattle.pac_asm_operation.specs.Views.{fits_row, operand_pair}
-use Rattle.pac_asm_operation.proofs.form.first_row.Given as goal
+use Rattle.pac_asm_operation.proofs.Common.{drop, find, fits_row, operand_pair, ◌≡◌}
 
-abbrev pub invariant-loop-row : goal.invariant-loop-row
+abbrev pub invariant-loop-row : Rattle.pac_asm_operation.proofs.form.first_row.Given.invariant-loop-row
 invariant-loop-row g l =
     find (fits_row l.family (operand_pair l.first l.second)) (drop l.row-index l.rows) ≡
     find (fits_row l.family (operand_pair l.first l.second)) l.rows

@@ -1,8 +1,5 @@
-use Rattle.std.proofs.Common.{if◌then◌else◌, List, Some, None, arith}
-use Rattle.std.specs.Prelude.{Option}
-use Rattle.std.proofs.lemmas.List.{map-append}
-use Rattle.pac_lex.specs.Tokens.{Lexeme}
-use Rattle.pac_asm_operation.specs.Operands.{ends_closed}
+use Rattle.pac_asm_operation.proofs.Common.{Lexeme, List, Option, arith, ends_closed, if◌then◌else◌, map-append}
+use Rattle.std.proofs.Common.{Some, None}
 use Rattle.pac_asm_operation.proofs.Expressions.{front, closed-front}
 use Rattle.pac_asm_operation.proofs.parsing.before_closing.Goals as goal
 

@@ -1,15 +1,9 @@
-use Rattle.std.proofs.Common.{List, ◌∷◌, ◌∙◌, ap, subst, sym}
-use Rattle.std.specs.Prelude.{Option}
+use Rattle.pac_asm_operation.proofs.Common.{Lexeme, List, Option, Token, ap, operand_of, operands_of_parts, parts_after, subst, sym, views}
+use Rattle.pac_asm_operation.proofs.Common.{◌∙◌, ◌∷◌}
 use denote.Ref.{Bor}
-use Rattle.pac_lex.specs.declared.token.Token.{Token}
-use Rattle.pac_lex.specs.Tokens.{Lexeme}
-use Rattle.pac_lex.specs.TokensProofs.{views}
-use Rattle.pac_asm_operation.specs.Operands.{operand_of, operands_of_parts}
-use Rattle.pac_asm_operation.specs.OperandsProofs.{parts_after}
 use Rattle.pac_asm_operation.proofs.OperandLists.{AreMore, more-before, split-has-part}
-use Rattle.pac_asm_operation.proofs.parsing.last_operand.Goals as goal
 
-pub returns-in-Some : goal.returns-in-Some
+pub returns-in-Some : Rattle.pac_asm_operation.proofs.parsing.last_operand.Goals.returns-in-Some
 returns-in-Some c =
     let first = views c.next_part.result.0.now in
     let are =

@@ -1,9 +1,5 @@
-use Rattle.std.proofs.Common.{◌≡◌, drop}
-use Rattle.std.specs.List.{list_any}
-use Rattle.pac_lex.specs.TokensProofs.{views}
-use Rattle.pac_asm_operation.specs.Reserved.{is_reserved_token}
-use Rattle.pac_asm_operation.proofs.reserved.has_reserved.Given as goal
+use Rattle.pac_asm_operation.proofs.Common.{drop, is_reserved_token, list_any, views, ◌≡◌}
 
-abbrev pub invariant-loop-token : goal.invariant-loop-token
+abbrev pub invariant-loop-token : Rattle.pac_asm_operation.proofs.reserved.has_reserved.Given.invariant-loop-token
 invariant-loop-token l =
     list_any is_reserved_token (views (drop l.token-index l.tokens)) ≡ list_any is_reserved_token (views l.tokens)

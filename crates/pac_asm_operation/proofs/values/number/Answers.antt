@@ -1,7 +1,5 @@
-use Rattle.std.proofs.Common.{◌∙◌, ap}
+use Rattle.pac_asm_operation.proofs.Common.{ap, number_or_fault, tree_within, ◌∙◌}
 use Rattle.pac_expr.specs.Values as expressions
-use Rattle.pac_asm_operation.specs.Kept.{number_or_fault}
-use Rattle.pac_asm_operation.specs.Views.{tree_within}
 use Rattle.pac_asm_operation.proofs.Expressions.{known-tree, answer-is, answer-stands}
 use Rattle.pac_asm_operation.proofs.values.number.Goals as goal
 

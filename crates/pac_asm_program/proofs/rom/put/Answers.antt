@@ -1,7 +1,5 @@
-use Rattle.std.proofs.Common.{◌≡◌, ℕ, ◌+◌, ◌-◌, ◌≤◌, List, length, get_or, take, ap, ◌∙◌, arith}
-use Rattle.std.proofs.lemmas.List.{get_or-take, length-take-le}
-use Rattle.pac_code.specs.Items.{bytes_in, bytes_of}
-use Rattle.pac_asm_program.specs.Programs.{rom_size}
+use Rattle.pac_asm_program.proofs.Common.{List, ap, arith, bytes_in, bytes_of, get_or, get_or-take, length, length-take-le, rom_size, take}
+use Rattle.pac_asm_program.proofs.Common.{ℕ, ◌+◌, ◌-◌, ◌∙◌, ◌≡◌, ◌≤◌}
 use Rattle.pac_asm_program.proofs.WrittenOver.{written-over, left-as-it-is}
 use borrow.Rule.Slice.PartMut.{put_mid}
 use Rattle.pac_asm_program.proofs.rom.put.Goals as goal

@@ -1,12 +1,7 @@
-use Rattle.std.proofs.Common.{◌≡◌, ℕ, List, ◌∷◌, ◌+◌, ◌-◌, length, drop, flat_map, map, ap, sym, ◌∙◌, subst, arith}
-use Rattle.std.specs.List.{range_with_len, slice_index}
-use Rattle.std.proofs.lemmas.List.{drop_all, drop_more}
-use Rattle.pac_asm_program.specs.Programs.{items_in, rom_size}
-use Rattle.pac_asm_program.specs.Rom.{byte_over, rom_of}
-use Rattle.pac_asm_program.specs.RomProofs.{IsZeroElsewhere}
+use Rattle.pac_asm_program.proofs.Common.{IsZeroElsewhere, Line, List, Placed, ap, arith, byte_over, drop, drop_all, drop_more, flat_map}
+use Rattle.pac_asm_program.proofs.Common.{items_in, length, map, range_with_len, rom_of, rom_size, slice_index, subst, sym, ℕ, ◌+◌, ◌-◌}
+use Rattle.pac_asm_program.proofs.Common.{◌∙◌, ◌∷◌, ◌≡◌}
 use Rattle.pac_asm_program.proofs.Apart.{zero-elsewhere}
-use Rattle.pac_asm_program.specs.declared.line.Line.{Line}
-use Rattle.pac_asm_program.specs.declared.line.Line.TheVariants.{Placed}
 use Rattle.pac_asm_program.proofs.WrittenOver.{rom-of-none, rom-of-one-more}
 use Rattle.pac_asm_program.proofs.rom.rom_of.Goals as goal
 

@@ -1,6 +1,4 @@
-use Rattle.std.proofs.Common.{◌≡◌, ◌≤◌, drop, flat_map, length}
-use Rattle.pac_asm_program.specs.Programs.{items_in}
-use Rattle.pac_asm_program.specs.Rom.{rom_of}
+use Rattle.pac_asm_program.proofs.Common.{drop, flat_map, items_in, length, rom_of, ◌≡◌, ◌≤◌}
 use Rattle.pac_asm_program.proofs.rom.rom_of.Given as goal
 
 abbrev pub invariant-loop-count : goal.invariant-loop-count

@@ -1,10 +1,5 @@
 -- The block of the state that a call for some time leaves, which is read back.
-use Rattle.std.proofs.Common.{sym, ap, subst, ◌∙◌, arith}
-use Rattle.pac_board.specs.Fields.{state_of}
-use Rattle.pac_board.specs.State.{BoardState}
-use Rattle.pac_state.specs.Block.{IsBlock, block_text}
-use Rattle.pac_state.specs.Reading.{state_in}
-use Rattle.pac_block.specs.Host.{asked_left, state_left}
+use Rattle.pac_block.proofs.Common.{BoardState, IsBlock, ap, arith, asked_left, block_text, state_in, state_left, state_of, subst, sym, ◌∙◌}
 use Rattle.pac_block.proofs.Stops.{left-within, left-is-state}
 use Rattle.pac_block.proofs.block.keep_run.Goals as goal
 

@@ -1,12 +1,6 @@
 -- What a call for some time leaves.
-use Rattle.std.proofs.Common.{ap, subst, sym, refl, ◌∙◌}
-use Rattle.std.proofs.lemmas.Result.{err_from_is_err_and}
-use Rattle.pac_board.specs.Calls.{course, board_after_run}
-use Rattle.pac_board.specs.Fields.{state_of}
-use Rattle.pac_board.specs.State.{BoardValue}
-use Rattle.pac_board.specs.StateLaws.{restored_board}
-use Rattle.pac_block.specs.Handed.{StopsEarly}
-use Rattle.pac_block.specs.Host.{IsBlockOf, set_of_roms, state_left}
+use Rattle.pac_block.proofs.Common.{BoardValue, IsBlockOf, StopsEarly, ap, board_after_run, course, err_from_is_err_and, refl}
+use Rattle.pac_block.proofs.Common.{restored_board, set_of_roms, state_left, state_of, subst, sym, ◌∙◌}
 use Rattle.pac_block.proofs.Executed.{executed, may-not-run}
 use Rattle.pac_block.proofs.Stops.{stopped-early}
 use Rattle.pac_block.proofs.calls.exec.Goals as goal

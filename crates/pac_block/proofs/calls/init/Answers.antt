@@ -1,9 +1,6 @@
 -- The block of the board at power-on: zeros with its front.
-use Rattle.std.proofs.Common.{List, ℕ, ◌++◌, drop, refl, ap, ◌∙◌}
-use Rattle.pac_board.specs.State.{power_on_board}
-use Rattle.pac_state.specs.Reading.{lines_of, picture_in}
-use Rattle.pac_state.proofs.Fronts.{front-of-zeros, lines-of-zeros}
-use Rattle.pac_block.specs.Host.{set_of_roms}
+use Rattle.pac_block.proofs.Common.{List, ap, drop, front-of-zeros, lines-of-zeros, lines_of, picture_in, power_on_board, refl, set_of_roms}
+use Rattle.pac_block.proofs.Common.{ℕ, ◌++◌, ◌∙◌}
 use Rattle.pac_block.proofs.Becoming.{block-of}
 use Rattle.pac_block.proofs.calls.init.Goals as goal
 

@@ -1,8 +1,5 @@
 -- The picture of the block's board in the colours of the ROMs.
-use Rattle.std.proofs.Common.{ap, ◌∙◌, arith}
-use Rattle.pac_board.specs.PictureState.{palette_of}
-use Rattle.pac_board.specs.State.{BoardState}
-use Rattle.pac_block.specs.Host.{set_of_roms, rgba_of}
+use Rattle.pac_block.proofs.Common.{BoardState, ap, arith, palette_of, rgba_of, set_of_roms, ◌∙◌}
 use Rattle.pac_block.proofs.draw.draw.Goals as goal
 
 pub put_lines-requires-clause-picture : goal.put_lines-requires-clause-picture

@@ -1,8 +1,6 @@
 -- The pixels of a line, sixteen after sixteen.
-use Rattle.std.proofs.Common.{◌≡◌, ◌<◌, ◌+◌, ◌*◌, ◌++◌, length, get_or, slice_index, take, ap, ◌∙◌, append_assoc, arith}
-use Rattle.std.specs.List.{flat_map}
-use Rattle.std.proofs.lemmas.Simd.{get_or-chunk}
-use Rattle.pac_block.specs.Host.{opaque_pixel}
+use Rattle.pac_block.proofs.Common.{ap, append_assoc, arith, flat_map, get_or, get_or-chunk, length, opaque_pixel, slice_index, take, ◌*◌}
+use Rattle.pac_block.proofs.Common.{◌++◌, ◌+◌, ◌<◌, ◌∙◌, ◌≡◌}
 use Rattle.pac_block.proofs.Woven.{sixteen-more}
 use Rattle.pac_block.proofs.draw.put_line.Goals as goal
 

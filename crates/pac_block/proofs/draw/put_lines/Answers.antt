@@ -1,8 +1,6 @@
 -- The lines of a picture, one after another.
-use Rattle.std.proofs.Common.{◌≡◌, ◌<◌, ◌+◌, ◌*◌, ◌++◌, [], length, take, take_all, sym, ap, ◌∙◌, arith}
-use Rattle.std.specs.List.{flat_map}
-use Rattle.pac_lemmas.proofs.Pieces.{flat_map-one-more}
-use Rattle.pac_block.specs.Host.{opaque_pixel, rgba_of}
+use Rattle.pac_block.proofs.Common.{[], ap, arith, flat_map, flat_map-one-more, length, opaque_pixel, rgba_of, sym, take, take_all, ◌*◌}
+use Rattle.pac_block.proofs.Common.{◌++◌, ◌+◌, ◌<◌, ◌∙◌, ◌≡◌}
 use Rattle.pac_block.proofs.draw.put_lines.Goals as goal
 
 pub loop-y-preserved : goal.loop-y-preserved

@@ -1,11 +1,5 @@
 -- The block of the file's board, whose set is that of these ROMs.
-use Rattle.std.proofs.Common.{ℕ, refl, ap, sym, ◌∙◌}
-use Rattle.pac_board.specs.Fields.{state_of}
-use Rattle.pac_roms_manifest.specs.Sets.{digest_of}
-use Rattle.pac_state.specs.Block.{block_text}
-use Rattle.pac_state.proofs.Taken.{size-of}
-use Rattle.pac_block.specs.Host.{set_of_roms}
-use Rattle.pac_block.specs.Passed.{upgraded_state}
+use Rattle.pac_block.proofs.Common.{ap, block_text, digest_of, refl, set_of_roms, size-of, state_of, sym, upgraded_state, ℕ, ◌∙◌}
 use Rattle.pac_block.proofs.Loaded.{loaded, not-loaded}
 use Rattle.pac_block.proofs.files.load.Goals as goal
 

@@ -1,12 +1,8 @@
 -- The file fills the buffer, which has its size.
-use Rattle.std.proofs.Common.{refl, sym, ◌∙◌}
-use Rattle.pac_board.specs.Fields.{state_of}
-use Rattle.pac_state.specs.Text.{body, sealed_file, written_version}
-use Rattle.pac_state.proofs.Fronts.{file-size}
+use Rattle.pac_block.proofs.Common.{body, file-size, refl, sealed_file, state_of, sym, written_version, ◌∙◌}
 use Rattle.pac_block.proofs.Filling.{filled}
-use Rattle.pac_block.proofs.files.put_file.Goals as goal
 
-pub returns : goal.returns
+pub returns : Rattle.pac_block.proofs.files.put_file.Goals.returns
 returns c =
     let state = state_of c.args.fields.now in
     let digest = c.args.digest.now in

@@ -1,10 +1,5 @@
 -- The file of the board that these ROMs and the block make.
-use Rattle.std.proofs.Common.{ap, ◌∙◌, arith}
-use Rattle.pac_board.specs.Fields.{state_of}
-use Rattle.pac_board.specs.State.{BoardState}
-use Rattle.pac_roms_manifest.specs.Sets.{digest_of}
-use Rattle.pac_state.specs.Text.{body, sealed_file, written_version}
-use Rattle.pac_block.specs.Host.{set_of_roms}
+use Rattle.pac_block.proofs.Common.{BoardState, ap, arith, body, digest_of, sealed_file, set_of_roms, state_of, written_version, ◌∙◌}
 use Rattle.pac_block.proofs.files.save.Goals as goal
 
 pub put_file-requires-clause-in_range : goal.put_file-requires-clause-in_range

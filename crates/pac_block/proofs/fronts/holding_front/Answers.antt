@@ -1,10 +1,5 @@
 -- The front of the board that holds other inputs: its ROMs make no difference.
-use Rattle.std.proofs.Common.{ℕ, ap, rules, subst, refl, ◌∙◌}
-use Rattle.pac_board.specs.Fields.{state_of}
-use Rattle.pac_board.specs.Inputs.{mask}
-use Rattle.pac_board.specs.MemoryView.{held_with, held_without}
-use Rattle.pac_board.specs.State.{BoardState}
-use Rattle.pac_state.specs.Fronts.{IsFrontOf}
+use Rattle.pac_block.proofs.Common.{BoardState, IsFrontOf, ap, held_with, held_without, mask, refl, rules, state_of, subst, ℕ, ◌∙◌}
 use Rattle.pac_block.proofs.fronts.holding_front.Goals as goal
 
 -- the state in which these inputs are held

@@ -1,14 +1,6 @@
 -- The front of the board at power-on.
-use Rattle.std.proofs.Common.{List, ℕ, ap, subst, ◌∙◌, arith}
-use Rattle.pac_board.specs.MemoryFields.{view_of_fields}
-use Rattle.pac_board.specs.MemoryView.{View, power_on_view}
-use Rattle.pac_board.specs.State.{BoardState, nothing_due}
-use Rattle.pac_board.specs.Wave.{power_on_accumulators}
-use Rattle.pac_cpu.specs.Power.{power_on_regs}
-use Rattle.pac_picture.proofs.Composed.{black-picture}
-use Rattle.pac_state.specs.Fronts.{IsFrontOf}
-use Rattle.pac_state.specs.Saved.{IsStateInRange}
-use Rattle.pac_state.proofs.Taken.{range-of}
+use Rattle.pac_block.proofs.Common.{BoardState, IsFrontOf, IsStateInRange, List, View, ap, arith, black-picture, nothing_due}
+use Rattle.pac_block.proofs.Common.{power_on_accumulators, power_on_regs, power_on_view, range-of, subst, view_of_fields, ℕ, ◌∙◌}
 use Rattle.pac_block.proofs.fronts.power_on_front.Goals as goal
 
 -- the state at power-on, of a memory and lines

@@ -1,13 +1,6 @@
 -- The front of the board that is reset: its ROMs make no difference.
-use Rattle.std.proofs.Common.{ap, rules, subst, sym, refl, ◌∙◌}
-use Rattle.pac_board.specs.Fields.{state_of}
-use Rattle.pac_board.specs.MemoryFields.{view_of_fields}
-use Rattle.pac_board.specs.MemoryView.{View, HoldWhatTheyCan}
-use Rattle.pac_board.specs.Regs.{Regs}
-use Rattle.pac_board.specs.State.{BoardState}
-use Rattle.pac_cpu.specs.Power.{reset_regs}
-use Rattle.pac_board.specs.Entry.{Reset, view_after}
-use Rattle.pac_state.specs.Fronts.{IsFrontOf}
+use Rattle.pac_block.proofs.Common.{BoardState, HoldWhatTheyCan, IsFrontOf, Regs, Reset, View, ap, refl, reset_regs, rules, state_of, subst}
+use Rattle.pac_block.proofs.Common.{sym, view_after, view_of_fields, ◌∙◌}
 use Rattle.pac_block.proofs.fronts.reset_front.Goals as goal
 
 -- the state with other registers and another memory
@@ -23,8 +16,8 @@ reset_memory-memory-requires c = c.in_ok-fields.ensures.in_range.count
 
 pub block_front-requires : goal.block_front-requires
 block_front-requires c =
-    let kept = subst HoldWhatTheyCan (sym (ap (λ (view : View). view.registers) c.reset_memory-memory.ensures.view)) c.in_ok-fields.ensures.in_range.registers in
     let range = c.in_ok-fields.ensures.in_range in
+    let kept = subst HoldWhatTheyCan (sym (ap (λ (view : View). view.registers) c.reset_memory-memory.ensures.view)) range.registers in
     let count = c.reset_memory-memory.ensures.count in
     search rules
 

@@ -1,5 +1,4 @@
 use Rattle.pac_block.proofs.FramesDone.{frames-are-done}
-use Rattle.pac_block.proofs.laws.frames_are_done.Goals as goal
 
-pub returns : goal.returns
+pub returns : Rattle.pac_block.proofs.laws.frames_are_done.Goals.returns
 returns c = frames-are-done

@@ -1,5 +1,4 @@
 use Rattle.pac_block.proofs.Films.{hosts-play-the-film}
-use Rattle.pac_block.proofs.laws.hosts_play_the_film.Goals as goal
 
-pub returns : goal.returns
+pub returns : Rattle.pac_block.proofs.laws.hosts_play_the_film.Goals.returns
 returns c = hosts-play-the-film

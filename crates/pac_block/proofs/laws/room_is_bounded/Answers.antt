@@ -1,5 +1,4 @@
 use Rattle.pac_block.proofs.TimeParts.{room-is-bounded}
-use Rattle.pac_block.proofs.laws.room_is_bounded.Goals as goal
 
-pub returns : goal.returns
+pub returns : Rattle.pac_block.proofs.laws.room_is_bounded.Goals.returns
 returns c = room-is-bounded

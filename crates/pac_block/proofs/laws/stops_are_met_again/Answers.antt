@@ -1,5 +1,4 @@
 use Rattle.pac_block.proofs.TimeParts.{stops-met-again}
-use Rattle.pac_block.proofs.laws.stops_are_met_again.Goals as goal
 
-pub returns : goal.returns
+pub returns : Rattle.pac_block.proofs.laws.stops_are_met_again.Goals.returns
 returns c = stops-met-again

@@ -1,6 +1,5 @@
 -- Line after line is put into the block.
-use Rattle.std.proofs.Common.{ap, sym, ◌∙◌, arith}
-use Rattle.pac_state.specs.Block.{block_text}
+use Rattle.pac_block.proofs.Common.{ap, arith, block_text, sym, ◌∙◌}
 use Rattle.pac_block.proofs.Recomposing.{line-put, none-yet}
 use Rattle.pac_block.proofs.passed.compose_lines.Goals as goal
 

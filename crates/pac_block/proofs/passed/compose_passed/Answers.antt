@@ -1,14 +1,6 @@
 -- The lines that have passed are composed from the memory that the fields have.
-use Rattle.std.proofs.Common.{◌≡◌, ◌-◌, ℕ, length, ap, ◌∙◌, arith}
-use Rattle.std.proofs.lemmas.List.{length-drop}
-use Rattle.pac_board.specs.BoardView.{video_roms, video_memory}
-use Rattle.pac_board.specs.Fields.{state_of}
-use Rattle.pac_board.specs.Latched.{Latched}
-use Rattle.pac_board.specs.MemoryFields.{view_of_fields}
-use Rattle.pac_picture.specs.Picture.{VideoRoms, VideoMemory}
-use Rattle.pac_state.specs.Block.{block_text}
-use Rattle.pac_block.specs.Host.{set_of_roms}
-use Rattle.pac_block.specs.Passed.{state_with_lines}
+use Rattle.pac_block.proofs.Common.{Latched, VideoMemory, VideoRoms, ap, arith, block_text, length, length-drop, set_of_roms, state_of}
+use Rattle.pac_block.proofs.Common.{state_with_lines, video_memory, video_roms, view_of_fields, ℕ, ◌-◌, ◌∙◌, ◌≡◌}
 use Rattle.pac_block.proofs.passed.compose_passed.Goals as goal
 
 pub of-memory-requires : goal.of-memory-requires

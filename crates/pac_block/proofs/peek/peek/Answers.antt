@@ -1,11 +1,6 @@
 -- The memory is that of the board that these ROMs and the block make.
-use Rattle.std.proofs.Common.{◌+◌, List, ℕ, length, ap, ◌∙◌, arith}
-use Rattle.pac_board.specs.MemoryContents.{read_of}
-use Rattle.pac_board.specs.MemoryView.{View}
-use Rattle.pac_board.specs.State.{BoardState}
-use Rattle.pac_num.specs.Numbers.{wrapped_address}
-use Rattle.pac_num.specs.Tabulate.{tabulate}
-use Rattle.pac_block.specs.Host.{bytes_read, set_of_roms}
+use Rattle.pac_block.proofs.Common.{BoardState, List, View, ap, arith, bytes_read, length, read_of, set_of_roms, tabulate, wrapped_address}
+use Rattle.pac_block.proofs.Common.{ℕ, ◌+◌, ◌∙◌}
 use Rattle.pac_block.proofs.peek.peek.Goals as goal
 
 pub of-requires : goal.of-requires

@@ -1,9 +1,7 @@
 -- Each byte is written.
-use Rattle.std.proofs.Common.{◌≡◌, length, arith}
-use Rattle.pac_num.proofs.Tabulated.{tabulate-is}
-use Rattle.pac_block.proofs.peek.put_read.Goals as goal
+use Rattle.pac_block.proofs.Common.{arith, length, tabulate-is, ◌≡◌}
 
-pub returns : goal.returns
+pub returns : Rattle.pac_block.proofs.peek.put_read.Goals.returns
 returns c =
     let all : c.loop-place.place ≡ length c.args.bytes.now = omega (arith, c.loop-place.invariant.long) in
     tabulate-is c.loop-place.bytes (length c.args.bytes.now) _ 0 c.loop-place.invariant.long (rw all at c.loop-place.invariant.read)

@@ -1,12 +1,8 @@
 -- What was picked of the three colours, woven and written part by part.
-use Rattle.std.proofs.Common.{◌<◌, ◌++◌, ℕ, map, length, get_or, slice_index, take, ap, ◌∙◌, arith}
-use Rattle.std.specs.List.{flat_map}
-use Rattle.pac_block.specs.Host.{opaque_pixel}
-use Rattle.pac_block.specs.Woven.{woven}
+use Rattle.pac_block.proofs.Common.{ap, arith, flat_map, get_or, length, map, opaque_pixel, slice_index, take, woven, ℕ, ◌++◌, ◌<◌, ◌∙◌}
 use Rattle.pac_block.proofs.Woven.{four-parts, woven-pixels}
-use Rattle.pac_block.proofs.pixels.put_pixels.Goals as goal
 
-pub returns-clause-text : goal.returns-clause-text
+pub returns-clause-text : Rattle.pac_block.proofs.pixels.put_pixels.Goals.returns-clause-text
 returns-clause-text c =
     let numbers = c.args.numbers in
     let colours = c.palette.inside in

@@ -1,8 +1,6 @@
 -- The bytes of what is told, number by number.
-use Rattle.std.proofs.Common.{◌≡◌, ◌++◌, ◌∷◌, [], ℕ, length, List, slice_index_or, ap, refl, arith}
-use Rattle.std.specs.Int.{to_le_bytes, w16, w32, w64}
-use Rattle.pac_block.specs.Codes.{ran_bytes}
-use Rattle.pac_block.proofs.ran.bytes_of.Goals as goal
+use Rattle.pac_block.proofs.Common.{List, [], ap, arith, length, ran_bytes, refl, slice_index_or, to_le_bytes, w16, w32, w64, ℕ, ◌++◌, ◌∷◌}
+use Rattle.pac_block.proofs.Common.{◌≡◌}
 
 -- four bytes, one by one
 four-listed : (bytes : List ℕ) → length bytes ≡ 4
@@ -14,7 +12,7 @@ four-listed (a ∷ b ∷ c ∷ []) long = absurd (omega (arith, long))
 four-listed (a ∷ b ∷ c ∷ d ∷ []) long = refl
 four-listed (a ∷ b ∷ c ∷ d ∷ e ∷ more) long = absurd (omega (arith, long))
 
-pub returns : goal.returns
+pub returns : Rattle.pac_block.proofs.ran.bytes_of.Goals.returns
 unfolding ran_bytes
 returns c =
     let ran = c.args.ran.now in

@@ -1,10 +1,6 @@
 -- The parts of the set, one after another, are the ROMs.
-use Rattle.std.proofs.Common.{◌≡◌, ◌+◌, ℕ, List, ◌++◌, length, sym, ap, ◌∙◌, take_all, arith}
-use Rattle.sha1.specs.Sha1.{sha1}
-use Rattle.pac_state.specs.Reading.{bytes_at_place}
-use Rattle.pac_state.proofs.Whole.{part-add}
-use Rattle.pac_block.specs.Host.{roms_size, set_of_roms}
-use Rattle.pac_block.proofs.roms.digest.Goals as goal
+use Rattle.pac_block.proofs.Common.{List, ap, arith, bytes_at_place, length, part-add, roms_size, set_of_roms, sha1, sym, take_all, ℕ, ◌++◌}
+use Rattle.pac_block.proofs.Common.{◌+◌, ◌∙◌, ◌≡◌}
 
 abbrev part : ℕ → ℕ → List ℕ → List ℕ
 part = bytes_at_place
@@ -32,6 +28,6 @@ roms-are roms size =
     ∙ both 0 24864 24864 256 25120 roms (omega arith) (omega arith)
     ∙ take_all 25120 roms (omega (arith, size)))
 
-pub returns : goal.returns
+pub returns : Rattle.pac_block.proofs.roms.digest.Goals.returns
 unfolding set_of_roms
 returns c = c.digest.ensures ∙ ap sha1 (roms-are c.args.roms.now c.requires)

@@ -1,8 +1,6 @@
-use Rattle.std.proofs.Common.{◌∙◌}
-use Rattle.pac_block.specs.Host.{set_of_roms}
-use Rattle.pac_block.proofs.roms.graphics_of.Goals as goal
+use Rattle.pac_block.proofs.Common.{set_of_roms, ◌∙◌}
 
-pub returns : goal.returns
+pub returns : Rattle.pac_block.proofs.roms.graphics_of.Goals.returns
 unfolding set_of_roms
 returns c = c.new.ensures ∙ (λ i. record {
   tiles = c.chunk.ensures i;

@@ -1,10 +1,6 @@
 -- The buffer has all samples, since there is room for them.
-use Rattle.std.proofs.Common.{◌≡◌, ◌+◌, ◌-◌, ◌++◌, drop, ap, ◌∙◌, arith, rules}
-use Rattle.pac_board.specs.Calls.{outputs_given, run_ticks}
-use Rattle.pac_board.specs.Output.{sound_count, picture_count}
-use Rattle.pac_board.specs.State.{BoardValue, time_of}
-use Rattle.pac_block.specs.Codes.{ran_of}
-use Rattle.pac_block.specs.Host.{samples_given}
+use Rattle.pac_block.proofs.Common.{BoardValue, ap, arith, drop, outputs_given, picture_count, ran_of, rules, run_ticks, samples_given}
+use Rattle.pac_block.proofs.Common.{sound_count, time_of, ◌++◌, ◌+◌, ◌-◌, ◌∙◌, ◌≡◌}
 use Rattle.pac_block.proofs.Sounding.{are-written, runs-to-its-end, sounds-bounded, pictures-bounded}
 use Rattle.pac_block.proofs.time.run.Goals as goal
 

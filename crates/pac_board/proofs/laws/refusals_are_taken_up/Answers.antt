@@ -1,6 +1,5 @@
 use Rattle.pac_board.specs.SinksLaws.{by}
 use Rattle.pac_board.proofs.Pieces.{refusals-taken-up}
-use Rattle.pac_board.proofs.laws.refusals_are_taken_up.Goals as goal
 
-pub returns : goal.returns
+pub returns : Rattle.pac_board.proofs.laws.refusals_are_taken_up.Goals.returns
 returns g c = refusals-taken-up (by g.S.Sink.took g.S.Sink.refused)

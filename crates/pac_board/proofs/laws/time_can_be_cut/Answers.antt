@@ -1,5 +1,4 @@
 use Rattle.pac_board.proofs.Pieces.{time-cut}
-use Rattle.pac_board.proofs.laws.time_can_be_cut.Goals as goal
 
-pub returns : goal.returns
+pub returns : Rattle.pac_board.proofs.laws.time_can_be_cut.Goals.returns
 returns c = time-cut

@@ -1,5 +1,4 @@
 use Rattle.std.proofs.Common.{refl}
-use Rattle.pac_board_course.proofs.laws.courses_are_resumed.Goals as goal
 
-pub returns : goal.returns
+pub returns : Rattle.pac_board_course.proofs.laws.courses_are_resumed.Goals.returns
 returns g board script = refl

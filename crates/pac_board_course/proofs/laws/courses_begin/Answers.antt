@@ -1,5 +1,4 @@
 use Rattle.pac_board_course.proofs.Begun.{courses-begin}
-use Rattle.pac_board_course.proofs.laws.courses_begin.Goals as goal
 
-pub returns : goal.returns
+pub returns : Rattle.pac_board_course.proofs.laws.courses_begin.Goals.returns
 returns g = courses-begin

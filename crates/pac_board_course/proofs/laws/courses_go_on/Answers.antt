@@ -1,5 +1,4 @@
 use Rattle.pac_board_course.proofs.Whole.{courses-go-on}
-use Rattle.pac_board_course.proofs.laws.courses_go_on.Goals as goal
 
-pub returns : goal.returns
+pub returns : Rattle.pac_board_course.proofs.laws.courses_go_on.Goals.returns
 returns g = courses-go-on

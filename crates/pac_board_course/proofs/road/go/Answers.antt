@@ -1,9 +1,5 @@
 -- The answer is the board's, and the next frame's inputs are held where it has ended.
-use Rattle.std.proofs.Common.{◌≡◌, ◌<◌, ◌≤◌, min, inl, inr, refl, rules}
-use Rattle.pac_board.specs.SinksLaws.{by}
-use Rattle.pac_board.specs.State.{board_with_inputs}
-use Rattle.pac_board_course.specs.Course.{CourseValue}
-use Rattle.pac_board_course.specs.Frames.{frame_end}
+use Rattle.pac_board_course.proofs.Common.{CourseValue, board_with_inputs, by, frame_end, inl, inr, min, refl, rules, ◌<◌, ◌≡◌, ◌≤◌}
 use Rattle.pac_board_course.proofs.Answered.{next_mask}
 use Rattle.pac_board_course.proofs.Strode.{gone-told}
 use Rattle.pac_board_course.proofs.road.go.Goals as goal

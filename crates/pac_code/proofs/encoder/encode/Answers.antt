@@ -1,6 +1,5 @@
 use Rattle.std.proofs.Common.{arith}
 use Rattle.pac_code.proofs.RoundTrip.{room-for-opcode}
-use Rattle.pac_code.proofs.encoder.encode.Goals as goal
 
-pub push-requires : goal.push-requires
+pub push-requires : Rattle.pac_code.proofs.encoder.encode.Goals.push-requires
 push-requires c = grind (arith, room-for-opcode)

@@ -1,5 +1,4 @@
 use Rattle.pac_cpu.proofs.CpuSteps.{cpu-step-alike}
-use Rattle.pac_cpu.proofs.laws.cpu_step_rests_on_answers.Goals as goal
 
-pub returns : goal.returns
+pub returns : Rattle.pac_cpu.proofs.laws.cpu_step_rests_on_answers.Goals.returns
 returns c = cpu-step-alike

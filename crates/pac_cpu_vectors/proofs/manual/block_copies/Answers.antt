@@ -1,5 +1,4 @@
 use Rattle.pac_cpu_vectors.proofs.Blocks.{copies-blocks}
-use Rattle.pac_cpu_vectors.proofs.manual.block_copies.Goals as goal
 
-pub returns : goal.returns
+pub returns : Rattle.pac_cpu_vectors.proofs.manual.block_copies.Goals.returns
 returns c = copies-blocks

@@ -1,5 +1,4 @@
 use Rattle.pac_cpu_vectors.proofs.Blocks.{inputs-blocks}
-use Rattle.pac_cpu_vectors.proofs.manual.block_inputs.Goals as goal
 
-pub returns : goal.returns
+pub returns : Rattle.pac_cpu_vectors.proofs.manual.block_inputs.Goals.returns
 returns c = inputs-blocks

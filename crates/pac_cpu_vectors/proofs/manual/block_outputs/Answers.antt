@@ -1,5 +1,4 @@
 use Rattle.pac_cpu_vectors.proofs.Blocks.{outputs-blocks}
-use Rattle.pac_cpu_vectors.proofs.manual.block_outputs.Goals as goal
 
-pub returns : goal.returns
+pub returns : Rattle.pac_cpu_vectors.proofs.manual.block_outputs.Goals.returns
 returns c = outputs-blocks

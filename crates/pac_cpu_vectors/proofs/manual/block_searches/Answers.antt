@@ -1,5 +1,4 @@
 use Rattle.pac_cpu_vectors.proofs.Blocks.{searches-blocks}
-use Rattle.pac_cpu_vectors.proofs.manual.block_searches.Goals as goal
 
-pub returns : goal.returns
+pub returns : Rattle.pac_cpu_vectors.proofs.manual.block_searches.Goals.returns
 returns c = searches-blocks

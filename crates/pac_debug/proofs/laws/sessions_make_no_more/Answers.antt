@@ -1,7 +1,6 @@
 -- By induction over the lines.
 use Rattle.pac_board.specs.SinksLaws.{by}
 use Rattle.pac_debug.proofs.StepsMade.{sessions-make-no-more}
-use Rattle.pac_debug.proofs.laws.sessions_make_no_more.Goals as goal
 
-pub returns : goal.returns
+pub returns : Rattle.pac_debug.proofs.laws.sessions_make_no_more.Goals.returns
 returns g c = sessions-make-no-more (by g.S.Sink.took g.S.Sink.refused) g.W.Out.took g.W.Out.refused

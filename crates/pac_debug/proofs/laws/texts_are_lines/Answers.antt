@@ -1,7 +1,6 @@
 -- By induction over the lines.
 use Rattle.pac_board.specs.SinksLaws.{by}
 use Rattle.pac_debug.proofs.GoingOn.{in-turn}
-use Rattle.pac_debug.proofs.laws.texts_are_lines.Goals as goal
 
-pub returns : goal.returns
+pub returns : Rattle.pac_debug.proofs.laws.texts_are_lines.Goals.returns
 returns g c = in-turn (by g.S.Sink.took g.S.Sink.refused) g.W.Out.took g.W.Out.refused

@@ -1,8 +1,4 @@
-use Rattle.std.proofs.Common.{Ok, ap, arith}
-use Rattle.std.proofs.lemmas.Result.{err_from_is_err_and}
-use Rattle.std.specs.Str.Lines.{lines}
-use Rattle.pac_board.specs.SinksLaws.{by}
-use Rattle.pac_debug.specs.ObeyingLaws.{Scene}
+use Rattle.pac_debug.proofs.Common.{Ok, Scene, ap, arith, by, err_from_is_err_and, lines}
 use Rattle.pac_debug.proofs.Giving.{lines-given}
 use Rattle.pac_debug.proofs.LineByLine.{leads-on, leads-to-end, leads-to-fault}
 use Rattle.pac_debug.proofs.lines.commands.Goals as goal

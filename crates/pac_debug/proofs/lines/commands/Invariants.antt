@@ -1,6 +1,4 @@
-use Rattle.std.proofs.Common.{length}
-use Rattle.std.specs.Str.Lines.{lines}
-use Rattle.pac_board.specs.SinksLaws.{by}
+use Rattle.pac_debug.proofs.Common.{by, length, lines}
 use Rattle.pac_debug.proofs.LineByLine.{Leads}
 use Rattle.pac_debug.proofs.lines.commands.Given as goal
 

@@ -1,12 +1,7 @@
-use Rattle.std.proofs.Common.{rules, arith, ◌≡◌, ℕ, ◌+◌, refl, ap, ◌∙◌}
-use Rattle.std.proofs.lemmas.Grind.{common_steps}
-use Rattle.pac_board.specs.MemoryContents.{read_of}
-use Rattle.pac_num.specs.Numbers.{wrapped_address}
-use Rattle.pac_debug_text.specs.Peeks.{bytes_from}
-use Rattle.pac_debug.specs.Answers.{session_byte_at}
-use Rattle.pac_debug.proofs.seen.four_bytes.Goals as goal
+use Rattle.pac_debug.proofs.Common.{ap, arith, bytes_from, common_steps, read_of, refl, rules, session_byte_at, wrapped_address, ℕ, ◌+◌}
+use Rattle.pac_debug.proofs.Common.{◌∙◌, ◌≡◌}
 
-pub returns : goal.returns
+pub returns : Rattle.pac_debug.proofs.seen.four_bytes.Goals.returns
 unfolding bytes_from
 returns c =
     let s = c.args.session.now in

@@ -1,11 +1,6 @@
-use Rattle.std.proofs.Common.{◌≡◌, ◌∙◌, ◌<◌, ap, arith, rules}
-use Rattle.pac_board.specs.Fields.{moment_of}
-use Rattle.pac_board.specs.State.{BoardState}
-use Rattle.pac_debug.specs.Answers.{session_moment}
-use Rattle.pac_board.proofs.LatchBytes.{byte_of-bits_of}
-use Rattle.pac_debug.proofs.seen.latches_of.Goals as goal
+use Rattle.pac_debug.proofs.Common.{BoardState, ap, arith, byte_of-bits_of, moment_of, rules, session_moment, ◌<◌, ◌∙◌, ◌≡◌}
 
-pub returns : goal.returns
+pub returns : Rattle.pac_debug.proofs.seen.latches_of.Goals.returns
 returns c =
     let memory = c.fields.result.memory in
     let byte : memory.latch < 256 = omega arith in

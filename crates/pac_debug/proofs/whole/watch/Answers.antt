@@ -1,9 +1,5 @@
 -- The lines, and then the run's end.
-use Rattle.std.proofs.Common.{arith}
-use Rattle.std.proofs.lemmas.Result.{err_from_is_err_and}
-use Rattle.std.specs.Str.Lines.{lines}
-use Rattle.pac_board.specs.SinksLaws.{by}
-use Rattle.pac_debug.specs.ObeyingLaws.{Scene}
+use Rattle.pac_debug.proofs.Common.{Scene, arith, by, err_from_is_err_and, lines}
 use Rattle.pac_debug.proofs.ToTheEnd.{finished, held-up, ended-early}
 use Rattle.pac_debug.proofs.whole.watch.Goals as goal
 

@@ -1,6 +1,5 @@
 -- Nothing is given before the first index.
 use Rattle.std.proofs.Common.{refl}
-use Rattle.pac_debug_session.proofs.laws.all_is_given.Goals as goal
 
-pub returns : goal.returns
+pub returns : Rattle.pac_debug_session.proofs.laws.all_is_given.Goals.returns
 returns c setting = refl

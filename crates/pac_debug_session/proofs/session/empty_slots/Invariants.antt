@@ -1,9 +1,7 @@
 -- So many were made, all empty.
-use Rattle.std.proofs.Common.{◌≡◌, length}
-use Rattle.pac_debug_session.specs.Keeping.{AreEmpty}
-use Rattle.pac_debug_session.proofs.session.empty_slots.Given as goal
+use Rattle.pac_debug_session.proofs.Common.{AreEmpty, length, ◌≡◌}
 
-abbrev pub invariant-making : goal.invariant-making
+abbrev pub invariant-making : Rattle.pac_debug_session.proofs.session.empty_slots.Given.invariant-making
 invariant-making l = record {
   count : length l.slots.items ≡ l.counter;
   empty : AreEmpty l.slots.items;

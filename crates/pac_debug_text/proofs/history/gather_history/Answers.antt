@@ -1,9 +1,5 @@
-use Rattle.std.proofs.Common.{List, ℕ, ◌+◌, drop, subst, ap, arith}
-use Rattle.std.proofs.lemmas.List.{drop_more}
-use Rattle.std.proofs.lemmas.Result.{err_from_is_err_and}
-use Rattle.std.specs.List.{flat_map}
-use Rattle.pac_out.proofs.Gathering.{Leaves, leaves-less, leaves-refused}
-use Rattle.pac_debug_text.specs.Texts.{past_step_text}
+use Rattle.pac_debug_text.proofs.Common.{Leaves, List, ap, arith, drop, drop_more, err_from_is_err_and, flat_map, leaves-less}
+use Rattle.pac_debug_text.proofs.Common.{leaves-refused, past_step_text, subst, ℕ, ◌+◌}
 use Rattle.pac_debug_text.proofs.history.gather_history.Goals as goal
 
 pub returns-in_err-gather_past_step : goal.returns-in_err-gather_past_step

@@ -1,10 +1,6 @@
-use Rattle.std.proofs.Common.{drop}
-use Rattle.std.specs.List.{flat_map}
-use Rattle.pac_out.proofs.Gathering.{Leaves}
-use Rattle.pac_debug_text.specs.Texts.{past_step_text}
-use Rattle.pac_debug_text.proofs.history.gather_history.Given as goal
+use Rattle.pac_debug_text.proofs.Common.{Leaves, drop, flat_map, past_step_text}
 
-abbrev pub invariant-loop-step : goal.invariant-loop-step
+abbrev pub invariant-loop-step : Rattle.pac_debug_text.proofs.history.gather_history.Given.invariant-loop-step
 invariant-loop-step g l =
     Leaves g.W.Out.took l.fn.pending l.fn.output (flat_map past_step_text l.steps)
     (flat_map past_step_text (drop l.step-index l.steps)) l.pending l.output

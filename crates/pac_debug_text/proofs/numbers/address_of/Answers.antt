@@ -1,8 +1,7 @@
 use Rattle.std.proofs.Common.{ap, Some, ◌∙◌, arith, length, ◌≡◌}
 use Rattle.pac_debug_text.proofs.NumberLemmas.{four-digits}
-use Rattle.pac_debug_text.proofs.numbers.address_of.Goals as goal
 
-pub returns : goal.returns
+pub returns : Rattle.pac_debug_text.proofs.numbers.address_of.Goals.returns
 returns c =
     let word = c.args.word.now in
     let four : length word ≡ 4 = omega (arith, c.in-len4.len_at_least, c.in-len4.len_below) in

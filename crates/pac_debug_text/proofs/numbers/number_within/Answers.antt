@@ -1,9 +1,6 @@
-use Rattle.std.proofs.Common.{◌<◌, ◌+◌, ◌-◌, ◌*◌, ◌∙◌, sym, drop, get_or, arith}
-use Rattle.std.proofs.lemmas.List.{at_drop_more}
-use Rattle.pac_lemmas.proofs.Digits.{with_digits, too-large}
-use Rattle.pac_debug_text.proofs.numbers.number_within.Goals as goal
+use Rattle.pac_debug_text.proofs.Common.{arith, at_drop_more, drop, get_or, sym, too-large, with_digits, ◌*◌, ◌+◌, ◌-◌, ◌<◌, ◌∙◌}
 
-pub returns-then-value-from-clause-exact : goal.returns-then-value-from-clause-exact
+pub returns-then-value-from-clause-exact : Rattle.pac_debug_text.proofs.numbers.number_within.Goals.returns-then-value-from-clause-exact
 returns-then-value-from-clause-exact c =
     let digits = c.args.word.now in
     let most = c.args.most in

@@ -1,6 +1,4 @@
-use Rattle.std.proofs.Common.{◌-◌, arith}
-use Rattle.std.proofs.lemmas.Result.{err_from_is_err_and}
-use Rattle.pac_out.proofs.Gathering.{leaves-less, leaves-refused, leaves-nothing}
+use Rattle.pac_debug_text.proofs.Common.{arith, err_from_is_err_and, leaves-less, leaves-nothing, leaves-refused, ◌-◌}
 use Rattle.pac_debug_text.proofs.PeekLemmas.{bytes-more, bytes-none}
 use Rattle.pac_debug_text.proofs.peek.gather_bytes.Goals as goal
 

@@ -1,8 +1,5 @@
-use Rattle.std.proofs.Common.{[], ◌++◌}
-use Rattle.std.specs.Prelude.{codes}
-use Rattle.std.proofs.lemmas.Result.{err_from_is_err_and}
-use Rattle.pac_out.proofs.Gathering.{leaves-all, leaves-less, leaves-refused, gathers-within}
-use Rattle.pac_debug_text.specs.Peeks.{row_head, row_text}
+use Rattle.pac_debug_text.proofs.Common.{[], codes, err_from_is_err_and, gathers-within, leaves-all, leaves-less, leaves-refused, row_head}
+use Rattle.pac_debug_text.proofs.Common.{row_text, ◌++◌}
 use Rattle.pac_debug_text.proofs.Parts.{gathers-last}
 use Rattle.pac_debug_text.proofs.PeekLemmas.{bytes_text}
 use Rattle.pac_debug_text.proofs.peek.gather_row.Goals as goal

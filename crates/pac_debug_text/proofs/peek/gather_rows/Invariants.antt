@@ -1,5 +1,4 @@
-use Rattle.pac_out.proofs.Gathering.{Leaves}
-use Rattle.pac_debug_text.specs.Peeks.{memory_text}
+use Rattle.pac_debug_text.proofs.Common.{Leaves, memory_text}
 use Rattle.pac_debug_text.proofs.peek.gather_rows.Given as goal
 
 abbrev pub invariant-loop-left : goal.invariant-loop-left

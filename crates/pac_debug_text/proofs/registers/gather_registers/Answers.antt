@@ -1,7 +1,5 @@
-use Rattle.std.proofs.Common.{[], ◌++◌}
-use Rattle.std.proofs.lemmas.Result.{err_from_is_err_and}
-use Rattle.pac_out.proofs.Gathering.{leaves-all, leaves-less, leaves-refused, gathers-within}
-use Rattle.pac_debug_text.specs.Texts.{pairs_text, alternate_text, interrupts_text, latches_text, registers_text}
+use Rattle.pac_debug_text.proofs.Common.{[], alternate_text, err_from_is_err_and, gathers-within, interrupts_text, latches_text, leaves-all}
+use Rattle.pac_debug_text.proofs.Common.{leaves-less, leaves-refused, pairs_text, registers_text, ◌++◌}
 use Rattle.pac_debug_text.proofs.Parts.{gathers-last}
 use Rattle.pac_debug_text.proofs.registers.gather_registers.Goals as goal
 

@@ -1,5 +1,4 @@
-use Rattle.std.proofs.Common.{arith, length, ap}
-use Rattle.std.proofs.lemmas.List.{length-append}
+use Rattle.pac_dis.proofs.Common.{ap, arith, length, length-append}
 use Rattle.pac_dis.proofs.Lengths.{operation-named, operands-fit}
 use Rattle.pac_dis.proofs.disassembly.instruction_text.Goals as goal
 

@@ -1,8 +1,5 @@
-use Rattle.std.proofs.Common.{List, ℕ, ◌<◌, length, sym, subst, arith}
-use Rattle.std.proofs.lemmas.Bool.{eqb-false, eqb-true}
-use Rattle.std.proofs.lemmas.Result.{err_from_is_err_and}
-use Rattle.pac_out.proofs.Gathering.{Leaves, leaves-less, leaves-refused, leaves-nothing}
-use Rattle.pac_dis.specs.Lines.{line_text, disassembly}
+use Rattle.pac_dis.proofs.Common.{Leaves, List, arith, disassembly, eqb-false, eqb-true, err_from_is_err_and, leaves-less, leaves-nothing}
+use Rattle.pac_dis.proofs.Common.{leaves-refused, length, line_text, subst, sym, ℕ, ◌<◌}
 use Rattle.pac_dis.proofs.LineLemmas.{later_lines, lines-more, lines-rest, lines-none}
 use Rattle.pac_dis.proofs.lines.put_lines.Goals as goal
 

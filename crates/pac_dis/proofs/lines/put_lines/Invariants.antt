@@ -1,6 +1,4 @@
-use Rattle.std.proofs.Common.{◌<◌, length}
-use Rattle.pac_out.proofs.Gathering.{Leaves}
-use Rattle.pac_dis.specs.Lines.{disassembly, lines_after}
+use Rattle.pac_dis.proofs.Common.{Leaves, disassembly, length, lines_after, ◌<◌}
 use Rattle.pac_dis.proofs.lines.put_lines.Given as goal
 
 abbrev pub invariant-loop-rest : goal.invariant-loop-rest

@@ -1,8 +1,5 @@
-use Rattle.std.proofs.Common.{◌≡◌, ◌∷◌, ap, ◌∙◌, arith}
+use Rattle.pac_expr.proofs.Common.{Subtract, ap, arith, arithmetic, kind_mark, token_marks, ◌∙◌, ◌∷◌, ◌≡◌}
 use Rattle.pac_expr.specs.declared.expr.Sign.TheVariants as signs
-use Rattle.pac_expr.specs.Trees.{kind_mark, arithmetic}
-use Rattle.pac_expr.specs.declared.expr.Operator.TheVariants.{Subtract}
-use Rattle.pac_expr.specs.TreesProofs.{token_marks}
 use Rattle.pac_expr.proofs.Parts.{plus-comes, single-begins, sign-begins, group-begins, joined-begins, atom-found}
 use Rattle.pac_expr.proofs.reading.+reading.Goals as goal
 

@@ -1,6 +1,4 @@
-use Rattle.std.proofs.Common.{◌<◌, ◌+◌, ◌*◌, length}
-use Rattle.pac_expr.specs.TreesProofs.{token_marks}
-use Rattle.pac_expr.specs.Reading.{BeginsWithTree}
+use Rattle.pac_expr.proofs.Common.{BeginsWithTree, length, token_marks, ◌*◌, ◌+◌, ◌<◌}
 use Rattle.pac_expr.proofs.reading.+reading.Given as goal
 
 abbrev pub decreases-operand : goal.decreases-operand

@@ -1,6 +1,4 @@
-use Rattle.std.proofs.Common.{sym, ◌∙◌, arith}
-use Rattle.pac_expr.specs.TreesProofs.{token_marks}
-use Rattle.pac_expr.specs.Parsing.{tree_in}
+use Rattle.pac_expr.proofs.Common.{arith, sym, token_marks, tree_in, ◌∙◌}
 use Rattle.pac_expr.proofs.Parts.{whole-value, more-none, refused-none, none-left, some-left}
 use Rattle.pac_expr.proofs.reading.evaluated.Goals as goal
 

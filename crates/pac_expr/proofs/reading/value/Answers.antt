@@ -1,5 +1,4 @@
-use Rattle.std.proofs.Common.{arith}
-use Rattle.pac_expr.specs.Parsing.{tree_in}
+use Rattle.pac_expr.proofs.Common.{arith, tree_in}
 use Rattle.pac_expr.proofs.Complete.{value-found, value-only}
 use Rattle.pac_expr.proofs.Undefined.{undefined-told}
 use Rattle.pac_expr.proofs.reading.value.Goals as goal

@@ -1,10 +1,6 @@
-use Rattle.std.proofs.Common.{drop, ap, ◌∙◌, arith}
-use Rattle.std.proofs.lemmas.List.{take_rest}
-use Rattle.pac_lemmas.proofs.Parts.{more-parts}
-use Rattle.pac_inputs.specs.Words.{is_comma_byte}
-use Rattle.pac_inputs.proofs.line.first_name.Goals as goal
+use Rattle.pac_inputs.proofs.Common.{ap, arith, drop, is_comma_byte, more-parts, take_rest, ◌∙◌}
 
-pub returns-in-len1-up-clause-more : goal.returns-in-len1-up-clause-more
+pub returns-in-len1-up-clause-more : Rattle.pac_inputs.proofs.line.first_name.Goals.returns-in-len1-up-clause-more
 returns-in-len1-up-clause-more c =
     let rest = c.split_at.result.1.now in
     let back = c.split_at.ensures.back ∙ ap (λ n. drop n c.args.names.now) c.name_len.ensures.value in

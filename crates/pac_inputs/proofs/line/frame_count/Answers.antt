@@ -1,9 +1,6 @@
-use Rattle.std.proofs.Common.{◌∙◌, ◌+◌, sym, drop, get_or}
-use Rattle.std.proofs.lemmas.List.{at_drop_more}
-use Rattle.pac_lemmas.proofs.Digits.{with_digits, too-large}
-use Rattle.pac_inputs.proofs.line.frame_count.Goals as goal
+use Rattle.pac_inputs.proofs.Common.{at_drop_more, drop, get_or, sym, too-large, with_digits, ◌+◌, ◌∙◌}
 
-pub returns-then-value-gt-FRAME_LIMIT : goal.returns-then-value-gt-FRAME_LIMIT
+pub returns-then-value-gt-FRAME_LIMIT : Rattle.pac_inputs.proofs.line.frame_count.Goals.returns-then-value-gt-FRAME_LIMIT
 returns-then-value-gt-FRAME_LIMIT c =
     let digits = c.args.word.now in
     let at = c.loop-byte.byte-index in

@@ -1,6 +1,4 @@
-use Rattle.std.proofs.Common.{◌≡◌}
-use Rattle.pac_inputs.specs.Inputs.{mask}
-use Rattle.pac_inputs.specs.Words.{inputs_named}
+use Rattle.pac_inputs.proofs.Common.{inputs_named, mask, ◌≡◌}
 use Rattle.pac_inputs.proofs.NameLemmas.{with_rest, texts, left}
 use Rattle.pac_inputs.proofs.line.inputs_named.Given as goal
 

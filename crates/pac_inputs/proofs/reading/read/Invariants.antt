@@ -1,6 +1,4 @@
-use Rattle.std.proofs.Common.{◌≡◌, ◌≤◌, ◌+◌, length}
-use Rattle.std.specs.Str.Lines.{lines}
-use Rattle.pac_inputs.specs.Script.{script_from_line, script_of}
+use Rattle.pac_inputs.proofs.Common.{length, lines, script_from_line, script_of, ◌+◌, ◌≡◌, ◌≤◌}
 use Rattle.pac_inputs.proofs.reading.read.Given as goal
 
 abbrev pub invariant-loop-line : goal.invariant-loop-line

@@ -1,5 +1,4 @@
-use Rattle.std.proofs.Common.{subst}
-use Rattle.pac_inputs.specs.ScriptProofs.{ScriptGives}
+use Rattle.pac_inputs.proofs.Common.{ScriptGives, subst}
 use Rattle.pac_inputs.proofs.Laws.{read-is-script, told-is-fault, script-again, fault-again}
 use Rattle.pac_inputs.proofs.reading.read_script.Goals as goal
 

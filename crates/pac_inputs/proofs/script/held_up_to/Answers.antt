@@ -1,6 +1,4 @@
-use Rattle.std.proofs.Common.{length, ◌<◌, ◌∙◌, sym, arith, rules}
-use Rattle.std.specs.List.{AllWithin}
-use Rattle.std.proofs.lemmas.List.Sorted.{IsPartitionPoint-from_clause}
+use Rattle.pac_inputs.proofs.Common.{AllWithin, IsPartitionPoint-from_clause, arith, length, rules, sym, ◌<◌, ◌∙◌}
 use Rattle.pac_inputs.proofs.Searches.{is_over, IsOver, ends-parted, none-open, first-open}
 use Rattle.pac_inputs.proofs.script.held_up_to.Goals as goal
 

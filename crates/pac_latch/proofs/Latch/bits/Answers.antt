@@ -1,5 +1,4 @@
-use Rattle.std.proofs.Common.{sym, ap, ◌∙◌, arith}
-use Rattle.pac_latch.specs.Latched.{bits_of}
+use Rattle.pac_latch.proofs.Common.{ap, arith, bits_of, sym, ◌∙◌}
 use Rattle.pac_latch.proofs.Bits.{bits_of-byte_of}
 use Rattle.pac_latch.proofs.Latch.bits.Goals as goal
 

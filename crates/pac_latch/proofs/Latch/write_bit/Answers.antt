@@ -1,5 +1,4 @@
-use Rattle.std.proofs.Common.{refl, ap, ◌∙◌}
-use Rattle.pac_latch.specs.Latched.{is_latch_bit_set}
+use Rattle.pac_latch.proofs.Common.{ap, is_latch_bit_set, refl, ◌∙◌}
 use Rattle.pac_latch.proofs.Bits.{listed-of_list, is_set-written, is_set-others}
 use Rattle.pac_latch.proofs.Latch.write_bit.Goals as goal
 

@@ -1,5 +1,4 @@
 use Rattle.pac_lex.proofs.ReadingLaws.{texts-again}
-use Rattle.pac_lex.proofs.laws.texts_have_their_characters.Goals as goal
 
-pub returns : goal.returns
+pub returns : Rattle.pac_lex.proofs.laws.texts_have_their_characters.Goals.returns
 returns c = texts-again

@@ -1,6 +1,4 @@
-use Rattle.std.proofs.Common.{sym, ◌∙◌, arith}
-use Rattle.std.proofs.lemmas.Bool.{eqb-false}
-use Rattle.std.proofs.lemmas.List.{take_rest}
+use Rattle.pac_lex.proofs.Common.{arith, eqb-false, sym, take_rest, ◌∙◌}
 use Rattle.pac_lex.proofs.LineLemmas.{lines-first, lines-last}
 use Rattle.pac_lex.proofs.line.first_line.Goals as goal
 

@@ -1,9 +1,7 @@
-use Rattle.std.proofs.Common.{◌∙◌, ◌+◌, sym, drop, get_or}
-use Rattle.std.proofs.lemmas.List.{at_drop_more}
+use Rattle.pac_lex.proofs.Common.{at_drop_more, drop, get_or, sym, ◌+◌, ◌∙◌}
 use Rattle.pac_lex.proofs.NumberLemmas.{with_digits, too-large}
-use Rattle.pac_lex.proofs.number.in_base.Goals as goal
 
-pub returns-then-value-gt-GREATEST : goal.returns-then-value-gt-GREATEST
+pub returns-then-value-gt-GREATEST : Rattle.pac_lex.proofs.number.in_base.Goals.returns-then-value-gt-GREATEST
 returns-then-value-gt-GREATEST c =
     let base = c.args.base in
     let value = c.loop-byte.value in

@@ -1,5 +1,4 @@
-use Rattle.std.proofs.Common.{◌≡◌, ◌≤◌, ◌+◌, length}
-use Rattle.pac_lex.specs.TextsProofs.{unquoted_characters, characters_of}
+use Rattle.pac_lex.proofs.Common.{characters_of, length, unquoted_characters, ◌+◌, ◌≡◌, ◌≤◌}
 use Rattle.pac_lex.proofs.quote.character_count.Given as goal
 
 abbrev pub invariant-loop-rest : goal.invariant-loop-rest

@@ -1,5 +1,4 @@
-use Rattle.std.proofs.Common.{length, ◌-◌, ◌≡◌, ◌≤◌, drop}
-use Rattle.pac_lex.specs.TextsProofs.{closing_length}
+use Rattle.pac_lex.proofs.Common.{closing_length, drop, length, ◌-◌, ◌≡◌, ◌≤◌}
 use Rattle.pac_lex.proofs.QuoteLemmas.{more}
 use Rattle.pac_lex.proofs.quote.closing.Given as goal
 

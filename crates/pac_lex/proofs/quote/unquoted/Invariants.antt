@@ -1,5 +1,4 @@
-use Rattle.std.proofs.Common.{◌≡◌, ◌++◌, length}
-use Rattle.pac_lex.specs.TextsProofs.{unquoted_characters}
+use Rattle.pac_lex.proofs.Common.{length, unquoted_characters, ◌++◌, ◌≡◌}
 use Rattle.pac_lex.proofs.quote.unquoted.Given as goal
 
 abbrev pub invariant-loop-rest : goal.invariant-loop-rest

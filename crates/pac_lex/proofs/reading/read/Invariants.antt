@@ -1,6 +1,4 @@
-use Rattle.std.proofs.Common.{◌≡◌, length}
-use Rattle.pac_lex.specs.TokensProofs.{views}
-use Rattle.pac_lex.specs.Scan.{scan}
+use Rattle.pac_lex.proofs.Common.{length, scan, views, ◌≡◌}
 use Rattle.pac_lex.proofs.ScanLemmas.{with_earlier}
 use Rattle.pac_lex.proofs.reading.read.Given as goal
 

@@ -1,5 +1,4 @@
-use Rattle.std.proofs.Common.{length, sym, ◌∙◌, arith}
-use Rattle.std.proofs.lemmas.Bool.{eqb-false}
+use Rattle.pac_lex.proofs.Common.{arith, eqb-false, length, sym, ◌∙◌}
 use Rattle.pac_lex.proofs.WordLemmas.{next-word-is, shorter-after}
 use Rattle.pac_lex.proofs.words.next_word.Goals as goal
 

@@ -1,7 +1,4 @@
-use Rattle.std.proofs.Common.{arith}
-use Rattle.std.proofs.lemmas.Result.{err_from_is_err_and}
-use Rattle.std.specs.Str.Lines.{lines}
-use Rattle.pac_out.proofs.Gathering.{leaves-less, leaves-refused, leaves-nothing}
+use Rattle.pac_listing.proofs.Common.{arith, err_from_is_err_and, leaves-less, leaves-nothing, leaves-refused, lines}
 use Rattle.pac_listing.proofs.RowLemmas.{lines-more, lines-none, texts-none}
 use Rattle.pac_listing.proofs.listing.put_lines.Goals as goal
 

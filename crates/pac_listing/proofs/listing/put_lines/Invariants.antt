@@ -1,7 +1,4 @@
-use Rattle.std.proofs.Common.{length, ◌≡◌, ◌+◌}
-use Rattle.std.specs.Str.Lines.{lines}
-use Rattle.pac_out.proofs.Gathering.{Leaves}
-use Rattle.pac_listing.specs.Listing.{lines_from}
+use Rattle.pac_listing.proofs.Common.{Leaves, length, lines, lines_from, ◌+◌, ◌≡◌}
 use Rattle.pac_listing.proofs.listing.put_lines.Given as goal
 
 abbrev pub invariant-loop-line : goal.invariant-loop-line

@@ -1,9 +1,5 @@
-use Rattle.std.proofs.Common.{List, ℕ, ◌++◌, subst}
-use Rattle.std.proofs.lemmas.Result.{err_from_is_err_and}
-use Rattle.std.specs.Str.Lines.{lines}
-use Rattle.pac_out.specs.Pending.{Gathers}
-use Rattle.pac_out.proofs.Gathering.{gathers-both, gathers-within}
-use Rattle.pac_listing.specs.Listing.{listing, lines_from, symbol_rows}
+use Rattle.pac_listing.proofs.Common.{Gathers, List, err_from_is_err_and, gathers-both, gathers-within, lines, lines_from, listing, subst}
+use Rattle.pac_listing.proofs.Common.{symbol_rows, ℕ, ◌++◌}
 use Rattle.pac_listing.proofs.listing.put_listing.Goals as goal
 
 pub returns-in_err-put_lines : goal.returns-in_err-put_lines

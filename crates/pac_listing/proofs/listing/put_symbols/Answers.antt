@@ -1,10 +1,5 @@
-use Rattle.std.proofs.Common.{rules, w32, SFits}
-use Rattle.std.proofs.lemmas.Int.{to_z-of_z}
-use Rattle.std.specs.Prelude.{codes}
-use Rattle.std.specs.List.{flat_map}
-use Rattle.std.proofs.lemmas.Result.{err_from_is_err_and}
-use Rattle.pac_out.proofs.Gathering.{leaves-less, leaves-refused, gathers-within}
-use Rattle.pac_listing.specs.Listing.{symbol_row}
+use Rattle.pac_listing.proofs.Common.{SFits, codes, err_from_is_err_and, flat_map, gathers-within, leaves-less, leaves-refused, rules}
+use Rattle.pac_listing.proofs.Common.{symbol_row, to_z-of_z, w32}
 use Rattle.pac_listing.proofs.RowLemmas.{symbols-more}
 use Rattle.pac_listing.proofs.listing.put_symbols.Goals as goal
 

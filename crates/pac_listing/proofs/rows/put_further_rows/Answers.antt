@@ -1,7 +1,5 @@
-use Rattle.std.proofs.Common.{length, sym, arith}
-use Rattle.std.proofs.lemmas.Bool.{eqb-false, eqb-true}
-use Rattle.std.proofs.lemmas.Result.{err_from_is_err_and}
-use Rattle.pac_out.proofs.Gathering.{leaves-less, leaves-refused, leaves-nothing}
+use Rattle.pac_listing.proofs.Common.{arith, eqb-false, eqb-true, err_from_is_err_and, leaves-less, leaves-nothing, leaves-refused, length}
+use Rattle.pac_listing.proofs.Common.{sym}
 use Rattle.pac_listing.proofs.RowLemmas.{rows-more, rows-none}
 use Rattle.pac_listing.proofs.rows.put_further_rows.Goals as goal
 

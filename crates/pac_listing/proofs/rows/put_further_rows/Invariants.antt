@@ -1,6 +1,4 @@
-use Rattle.std.proofs.Common.{length}
-use Rattle.pac_out.proofs.Gathering.{Leaves}
-use Rattle.pac_listing.specs.Listing.{all_rows}
+use Rattle.pac_listing.proofs.Common.{Leaves, all_rows, length}
 use Rattle.pac_listing.proofs.rows.put_further_rows.Given as goal
 
 abbrev pub invariant-loop-rest : goal.invariant-loop-rest

@@ -1,11 +1,6 @@
-use Rattle.std.proofs.Common.{List, ℕ, ◌<◌, ◌++◌, length, drop, refl, sym, subst, arith, ◌∙◌}
-use Rattle.std.proofs.lemmas.Bool.{eqb-false}
-use Rattle.std.proofs.lemmas.Result.{err_from_is_err_and}
-use Rattle.pac_out.specs.CountedLaws.{Refuses}
-use Rattle.pac_out.specs.Pending.{Gathers}
-use Rattle.pac_out.proofs.Gathering.{gathers-both, gathers-within}
-use Rattle.pac_listing.specs.Listing.{first_row, all_rows, next_row_address}
-use Rattle.pac_num.specs.Columns.{row_bytes}
+use Rattle.pac_listing.proofs.Common.{Gathers, List, Refuses, all_rows, arith, drop, eqb-false, err_from_is_err_and, first_row}
+use Rattle.pac_listing.proofs.Common.{gathers-both, gathers-within, length, next_row_address, refl, row_bytes, subst, sym, ℕ, ◌++◌, ◌<◌}
+use Rattle.pac_listing.proofs.Common.{◌∙◌}
 use Rattle.pac_listing.proofs.RowLemmas.{item-more}
 use Rattle.pac_listing.proofs.rows.put_item.Goals as goal
 

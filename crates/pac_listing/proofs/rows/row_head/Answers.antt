@@ -1,8 +1,7 @@
 use Rattle.std.proofs.Common.{rules, List, ℕ, ◌++◌, [], ◌∷◌, ap, ◌∙◌}
 use Rattle.pac_listing.proofs.Places.{items_from, all-items}
-use Rattle.pac_listing.proofs.rows.row_head.Goals as goal
 
-pub returns : goal.returns
+pub returns : Rattle.pac_listing.proofs.rows.row_head.Goals.returns
 unfolding items_from
 returns c =
     ap (λ (xs : List ℕ). xs ++ 32 ∷ (items_from 0 4 c.args.address ++ 32 ∷ (items_from 0 8 c.args.columns ++ 32 ∷ [])))

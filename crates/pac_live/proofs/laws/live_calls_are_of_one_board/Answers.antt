@@ -1,5 +1,4 @@
 use Rattle.pac_live.proofs.LiveBoards.{live-calls-are-of-one-board}
-use Rattle.pac_live.proofs.laws.live_calls_are_of_one_board.Goals as goal
 
-pub returns : goal.returns
+pub returns : Rattle.pac_live.proofs.laws.live_calls_are_of_one_board.Goals.returns
 returns c = live-calls-are-of-one-board

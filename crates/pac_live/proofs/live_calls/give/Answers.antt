@@ -1,10 +1,8 @@
 -- The block of the handle's board.
-use Rattle.std.proofs.Common.{◌≡◌}
-use Rattle.pac_live.specs.Live.{GivingBlock}
+use Rattle.pac_live.proofs.Common.{GivingBlock, ◌≡◌}
 use Rattle.pac_live.proofs.LiveMade.{made-on}
-use Rattle.pac_live.proofs.live_calls.give.Goals as goal
 
-pub returns : goal.returns
+pub returns : Rattle.pac_live.proofs.live_calls.give.Goals.returns
 returns c =
     let looked = c.in_ok-check_open.ensures in
     let given = c.give_block.new.block.bytes in

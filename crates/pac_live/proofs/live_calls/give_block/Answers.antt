@@ -1,10 +1,7 @@
 -- The block of the board's state, which is read back.
-use Rattle.std.proofs.Common.{refl, sym, ap, subst, ◌∙◌}
-use Rattle.pac_state.specs.Block.{IsBlock, block_text}
-use Rattle.pac_state.specs.Reading.{state_in}
-use Rattle.pac_live.proofs.live_calls.give_block.Goals as goal
+use Rattle.pac_live.proofs.Common.{IsBlock, ap, block_text, refl, state_in, subst, sym, ◌∙◌}
 
-pub returns : goal.returns
+pub returns : Rattle.pac_live.proofs.live_calls.give_block.Goals.returns
 returns c =
     let text = c.write_block.ensures ∙ ap block_text c.fields.ensures.fields in
     let is_state = c.boards_have_states.ensures in (

@@ -1,9 +1,7 @@
 -- A handle that isn't open stays.
-use Rattle.std.proofs.Common.{ap, refl, arith}
-use Rattle.pac_live.specs.declared.live.PacLive.{PacLive}
-use Rattle.pac_live.proofs.live_calls.make_closed.Goals as goal
+use Rattle.pac_live.proofs.Common.{PacLive, ap, arith, refl}
 
-pub returns-else-seal-eq-SEAL : goal.returns-else-seal-eq-SEAL
+pub returns-else-seal-eq-SEAL : Rattle.pac_live.proofs.live_calls.make_closed.Goals.returns-else-seal-eq-SEAL
 returns-else-seal-eq-SEAL c =
     let value = c.seal.ensures.0 in
     let same = c.seal.ensures.1 in

@@ -1,9 +1,5 @@
 -- The board of the block and the ROMs.
-use Rattle.std.proofs.Common.{ap, ◌∙◌}
-use Rattle.pac_board.specs.Fields.{state_of}
-use Rattle.pac_board.specs.State.{BoardState}
-use Rattle.pac_board.specs.StateLaws.{restored_board}
-use Rattle.pac_block.specs.Host.{set_of_roms}
+use Rattle.pac_live.proofs.Common.{BoardState, ap, restored_board, set_of_roms, state_of, ◌∙◌}
 use Rattle.pac_live.proofs.live_calls.put_block.Goals as goal
 
 pub put_fields-requires : goal.put_fields-requires

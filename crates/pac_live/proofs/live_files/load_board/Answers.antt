@@ -1,8 +1,5 @@
 -- The board of the file's state, if it is one of the board's set.
-use Rattle.std.proofs.Common.{ap, sym, ◌∙◌}
-use Rattle.pac_roms_manifest.specs.Sets.{digest_of}
-use Rattle.pac_state.specs.Saved.{upgraded_board}
-use Rattle.pac_state.proofs.Taken.{size-of}
+use Rattle.pac_live.proofs.Common.{ap, digest_of, size-of, sym, upgraded_board, ◌∙◌}
 use Rattle.pac_live.proofs.LiveTaken.{taken, not-taken}
 use Rattle.pac_live.proofs.live_files.load_board.Goals as goal
 

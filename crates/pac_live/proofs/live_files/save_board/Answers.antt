@@ -1,9 +1,5 @@
 -- The file of the board's set and state.
-use Rattle.std.proofs.Common.{refl, ap, ◌∙◌, arith}
-use Rattle.pac_board.specs.Fields.{state_of}
-use Rattle.pac_board.specs.State.{BoardState}
-use Rattle.pac_roms_manifest.specs.Sets.{digest_of}
-use Rattle.pac_state.specs.Text.{body, sealed_file, written_version}
+use Rattle.pac_live.proofs.Common.{BoardState, ap, arith, body, digest_of, refl, sealed_file, state_of, written_version, ◌∙◌}
 use Rattle.pac_live.proofs.live_files.save_board.Goals as goal
 
 pub put_file-requires-clause-in_range : goal.put_file-requires-clause-in_range

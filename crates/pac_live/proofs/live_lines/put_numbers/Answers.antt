@@ -1,7 +1,6 @@
 -- The lines of a picture, one after another.
-use Rattle.std.proofs.Common.{◌≡◌, ◌<◌, ◌+◌, ◌*◌, ◌++◌, [], ℕ, List, length, take, take_all, sym, ap, ◌∙◌, arith}
-use Rattle.std.specs.List.{flat_map}
-use Rattle.pac_lemmas.proofs.Pieces.{flat_map-one-more}
+use Rattle.pac_live.proofs.Common.{List, [], ap, arith, flat_map, flat_map-one-more, length, sym, take, take_all, ℕ, ◌*◌, ◌++◌, ◌+◌, ◌<◌}
+use Rattle.pac_live.proofs.Common.{◌∙◌, ◌≡◌}
 use Rattle.pac_live.proofs.live_lines.put_numbers.Goals as goal
 
 abbrev whole : List ℕ → List ℕ

@@ -1,8 +1,7 @@
 -- The pixels of all numbers are all that is written.
 use Rattle.std.proofs.Common.{◌≡◌, length, take_all, sym, ◌∙◌, arith}
-use Rattle.pac_live.proofs.live_lines.put_palette.Goals as goal
 
-pub returns : goal.returns
+pub returns : Rattle.pac_live.proofs.live_lines.put_palette.Goals.returns
 returns c =
     let size = c.put_pixels.ensures.size in
     let long : length c.put_pixels.new.rgba ≡ 64 = omega (arith, size, c.requires) in

@@ -1,10 +1,7 @@
 -- Each byte is written.
-use Rattle.std.proofs.Common.{◌≡◌, length, arith}
-use Rattle.pac_num.proofs.Tabulated.{tabulate-is}
-use Rattle.pac_live.specs.LiveLook.{bytes_read_of}
-use Rattle.pac_live.proofs.live_look.put_peeked.Goals as goal
+use Rattle.pac_live.proofs.Common.{arith, bytes_read_of, length, tabulate-is, ◌≡◌}
 
-pub returns : goal.returns
+pub returns : Rattle.pac_live.proofs.live_look.put_peeked.Goals.returns
 unfolding bytes_read_of
 returns c =
     let all : c.loop-place.place ≡ length c.args.bytes.now = omega (arith, c.loop-place.invariant.long) in

@@ -1,9 +1,6 @@
-use Rattle.std.proofs.Common.{◌≡◌, ◌<◌, ◌+◌, ℕ, length, get_or}
-use Rattle.pac_board.specs.MemoryContents.{read_of}
-use Rattle.pac_num.specs.Numbers.{wrapped_address}
-use Rattle.pac_live.proofs.live_look.put_peeked.Given as goal
+use Rattle.pac_live.proofs.Common.{get_or, length, read_of, wrapped_address, ℕ, ◌+◌, ◌<◌, ◌≡◌}
 
-abbrev pub invariant-loop-place : goal.invariant-loop-place
+abbrev pub invariant-loop-place : Rattle.pac_live.proofs.live_look.put_peeked.Given.invariant-loop-place
 invariant-loop-place l = record {
   at_is : l.at ≡ wrapped_address (l.address + l.place);
   long : length l.bytes ≡ length l.initial.bytes;

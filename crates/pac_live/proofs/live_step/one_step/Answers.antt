@@ -1,12 +1,7 @@
 -- The buffer has the step's samples, since there is room for them.
-use Rattle.std.proofs.Common.{◌≡◌, ◌-◌, ◌++◌, drop, ap, ◌∙◌, arith, rules}
-use Rattle.pac_board.specs.Calls.{next_of}
-use Rattle.pac_board.specs.Output.{sound_count, picture_count}
-use Rattle.pac_block.specs.Codes.{ran_of}
-use Rattle.pac_block.specs.Host.{samples_given}
-use Rattle.pac_live.specs.LiveStep.{outputs_of_one}
+use Rattle.pac_live.proofs.Common.{ap, are-written, arith, drop, next_of, outputs_of_one, picture_count, ran_of, rules, samples_given}
+use Rattle.pac_live.proofs.Common.{sound_count, ◌++◌, ◌-◌, ◌∙◌, ◌≡◌}
 use Rattle.pac_live.proofs.LiveSteps.{few-sounds, few-pictures, once-stop, step-done}
-use Rattle.pac_block.proofs.Sounding.{are-written}
 use Rattle.pac_live.proofs.live_step.one_step.Goals as goal
 
 pub overflow_cast-sounds : goal.overflow_cast-sounds

@@ -1,12 +1,7 @@
 -- A call for some time on a board.
-use Rattle.std.proofs.Common.{◌≤◌, ◌+◌, ◌-◌, ◌^◌, min, length, ◌∙◌, subst, sym, refl}
-use Rattle.std.proofs.lemmas.Result.{err_from_is_err_and}
-use Rattle.pac_board.specs.Calls.{course}
-use Rattle.pac_board.specs.State.{BoardState, BoardValue, most_asked}
-use Rattle.pac_block.specs.Handed.{StopsEarly}
-use Rattle.pac_block.specs.Host.{most_samples, state_left}
+use Rattle.pac_live.proofs.Common.{BoardState, BoardValue, StopsEarly, course, err_from_is_err_and, length, min, most_asked, most_samples}
+use Rattle.pac_live.proofs.Common.{refl, state_left, stopped-early, subst, sym, ◌+◌, ◌-◌, ◌^◌, ◌∙◌, ◌≤◌}
 use Rattle.pac_live.proofs.LiveRun.{run-fails}
-use Rattle.pac_block.proofs.Stops.{stopped-early}
 use Rattle.pac_live.proofs.live_time.exec_board.Goals as goal
 
 pub check-requires : goal.check-requires

@@ -1,8 +1,6 @@
 -- The map, if bytes of one are handed in.
-use Rattle.std.proofs.Common.{◌≡◌, ◌≢◌, ◌∙◌, List, ℕ, Option, Some, length, take_all, ap, subst, sym, arith}
-use Rattle.std.proofs.lemmas.Bool.Decides.{nat_tests}
-use Rattle.pac_board.specs.Stops.{is_stop}
-use Rattle.pac_live.specs.LiveUntil.{IsGoneOn}
+use Rattle.pac_live.proofs.Common.{IsGoneOn, List, Option, Some, ap, arith, is_stop, length, nat_tests, subst, sym, take_all, ℕ, ◌∙◌, ◌≡◌}
+use Rattle.pac_live.proofs.Common.{◌≢◌}
 use Rattle.pac_live.proofs.UntilAsked.{no-map, some-map}
 use Rattle.pac_live.proofs.live_until.go_by.Goals as goal
 

@@ -1,12 +1,6 @@
 -- What was due is given first.
-use Rattle.std.proofs.Common.{◌≡◌, ◌≢◌, ◌<◌, ◌^◌, false, [], ap, ◌∙◌, sym, rules}
-use Rattle.pac_board.specs.Calls.{with_due}
-use Rattle.pac_board.specs.CallsLaws.{IsOfferRefused}
-use Rattle.pac_board.specs.Sinks.{TookAll}
-use Rattle.pac_board.specs.SinksLaws.{by}
-use Rattle.pac_board.specs.State.{BoardState, BoardValue, due_outputs, nothing_due}
-use Rattle.pac_board.specs.Stops.{is_stop}
-use Rattle.pac_block.specs.Sounding.{sounding_took, sounding_refused}
+use Rattle.pac_live.proofs.Common.{BoardState, BoardValue, IsOfferRefused, TookAll, [], ap, by, due_outputs, false, is_stop, nothing_due}
+use Rattle.pac_live.proofs.Common.{rules, sounding_refused, sounding_took, sym, with_due, ◌<◌, ◌^◌, ◌∙◌, ◌≡◌, ◌≢◌}
 use Rattle.pac_live.proofs.UntilAsked.{due-elsewhere, due-there, something_due}
 use Rattle.pac_live.proofs.UntilEnds.{at-once, offer-full, went-on}
 use Rattle.pac_live.proofs.live_until.go_on.Goals as goal

@@ -1,10 +1,6 @@
 -- The buffer has the samples that were given, and they are told.
-use Rattle.std.proofs.Common.{◌≡◌, ◌-◌, ◌++◌, drop, ap, ◌∙◌, arith, rules}
-use Rattle.pac_board.specs.Output.{sound_count, picture_count}
-use Rattle.pac_block.specs.Codes.{ran_of}
-use Rattle.pac_block.specs.Host.{samples_given}
-use Rattle.pac_live.specs.LiveCodes.{until_of}
-use Rattle.pac_block.proofs.Sounding.{are-written}
+use Rattle.pac_live.proofs.Common.{ap, are-written, arith, drop, picture_count, ran_of, rules, samples_given, sound_count, until_of, ◌++◌}
+use Rattle.pac_live.proofs.Common.{◌-◌, ◌∙◌, ◌≡◌}
 use Rattle.pac_live.proofs.UntilGiven.{few-given}
 use Rattle.pac_live.proofs.live_until.go_told.Goals as goal
 

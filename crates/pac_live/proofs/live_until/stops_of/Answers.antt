@@ -1,8 +1,7 @@
 -- The addresses of the set.
 use Rattle.std.proofs.Common.{◌≡◌, ◌==◌, not, ℕ, List, length, take_all, slice_index, inr, ap, ◌∙◌, arith}
-use Rattle.pac_live.proofs.live_until.stops_of.Goals as goal
 
-pub returns : goal.returns
+pub returns : Rattle.pac_live.proofs.live_until.stops_of.Goals.returns
 returns c =
     let long : length c.args.places.now ≡ 65536 = omega arith in
     let whole = c.chunk.ensures ∙ take_all 65536 c.args.places.now (omega (arith, long)) in

@@ -1,9 +1,8 @@
 -- The call, by the set, the map and the time.
 use Rattle.std.proofs.Common.{◌+◌, ℕ, ap, ◌∙◌, arith, refl}
 use Rattle.pac_live.proofs.UntilAsked.{gone-same}
-use Rattle.pac_live.proofs.live_until.until_board.Goals as goal
 
-pub returns : goal.returns
+pub returns : Rattle.pac_live.proofs.live_until.until_board.Goals.returns
 returns c =
     let set = c.in_ok-stops.ensures in
     let limit = c.in_ok-limit.ensures in

@@ -1,6 +1,4 @@
-use Rattle.std.proofs.Common.{◌≡◌, ℕ, ◌+◌, List, [], ◌∷◌, ◌++◌, add-one, rules, refl, arith}
-use Rattle.pac_num.specs.Tabulate.{tabulate}
-use Rattle.pac_picture.specs.State.{black}
+use Rattle.pac_media.proofs.Common.{List, [], add-one, arith, black, refl, rules, tabulate, ℕ, ◌++◌, ◌+◌, ◌∷◌, ◌≡◌}
 use Rattle.pac_media.proofs.image.black_lines.Goals as goal
 
 -- a list that grows by the next value

@@ -1,6 +1,4 @@
-use Rattle.std.proofs.Common.{◌≡◌, replicate}
-use Rattle.pac_num.specs.Tabulate.{tabulate}
-use Rattle.pac_media.proofs.image.black_lines.Given as goal
+use Rattle.pac_media.proofs.Common.{replicate, tabulate, ◌≡◌}
 
-abbrev pub invariant-loop : goal.invariant-loop
+abbrev pub invariant-loop : Rattle.pac_media.proofs.image.black_lines.Given.invariant-loop
 invariant-loop l = l.lines.items ≡ tabulate l.counter (λ _. replicate 288 0)

@@ -1,6 +1,4 @@
-use Rattle.std.proofs.Common.{arith}
-use Rattle.std.proofs.lemmas.List.{take_all}
-use Rattle.pac_media.specs.Images.{ppm_of}
+use Rattle.pac_media.proofs.Common.{arith, ppm_of, take_all}
 use Rattle.pac_media.proofs.Blocks.{line-more}
 use Rattle.pac_media.proofs.image.draw.Goals as goal
 

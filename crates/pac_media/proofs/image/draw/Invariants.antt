@@ -1,10 +1,6 @@
-use Rattle.std.proofs.Common.{◌≡◌, ◌≤◌, ◌+◌, ◌*◌, ◌++◌, take, vec_len, vec_capacity}
-use Rattle.std.specs.List.{flat_map}
-use Rattle.pac_media.specs.Images.{palette_colour, header}
-use Rattle.pac_media.specs.ImagesProofs.{image_size}
-use Rattle.pac_media.proofs.image.draw.Given as goal
+use Rattle.pac_media.proofs.Common.{flat_map, header, image_size, palette_colour, take, vec_capacity, vec_len, ◌*◌, ◌++◌, ◌+◌, ◌≡◌, ◌≤◌}
 
-abbrev pub invariant-loop-y : goal.invariant-loop-y
+abbrev pub invariant-loop-y : Rattle.pac_media.proofs.image.draw.Given.invariant-loop-y
 invariant-loop-y l = record {
   drawn : l.image.items ≡ header ++ flat_map (flat_map (palette_colour l.palette)) (take l.y l.lines);
   long : vec_len l.image ≡ 15 + 864 * l.y;

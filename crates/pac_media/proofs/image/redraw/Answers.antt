@@ -1,7 +1,4 @@
-use Rattle.std.proofs.Common.{◌≡◌, ◌<◌, ◌+◌, ◌-◌, ◌*◌, length, ap, subst, ◌∙◌, arith}
-use Rattle.pac_picture.specs.State.{IsPicture}
-use Rattle.pac_picture.proofs.Composed.{set-picture}
-use Rattle.pac_media.specs.Images.{ppm_of}
+use Rattle.pac_media.proofs.Common.{IsPicture, ap, arith, length, ppm_of, set-picture, subst, ◌*◌, ◌+◌, ◌-◌, ◌<◌, ◌∙◌, ◌≡◌}
 use Rattle.pac_media.proofs.Blocks.{image-length, line-part, line-drawn, lines-step, all-lines}
 use Rattle.pac_media.proofs.image.redraw.Goals as goal
 

@@ -1,9 +1,6 @@
-use Rattle.std.proofs.Common.{◌≡◌, ◌<◌, ℕ, [], length, get_or}
-use Rattle.pac_picture.specs.State.{IsPicture}
-use Rattle.pac_media.specs.Images.{ppm_of}
-use Rattle.pac_media.proofs.image.redraw.Given as goal
+use Rattle.pac_media.proofs.Common.{IsPicture, [], get_or, length, ppm_of, ℕ, ◌<◌, ◌≡◌}
 
-abbrev pub invariant-loop-y : goal.invariant-loop-y
+abbrev pub invariant-loop-y : Rattle.pac_media.proofs.image.redraw.Given.invariant-loop-y
 invariant-loop-y l = record {
   picture : IsPicture l.kept;
   drawn : l.image ≡ ppm_of l.kept l.palette;

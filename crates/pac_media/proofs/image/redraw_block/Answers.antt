@@ -1,10 +1,7 @@
-use Rattle.std.proofs.Common.{◌≡◌, ◌+◌, ◌-◌, sym, ap, take, drop, ◌∙◌, arith}
-use Rattle.std.specs.List.{flat_map}
-use Rattle.pac_media.specs.Images.{palette_colour}
+use Rattle.pac_media.proofs.Common.{ap, arith, drop, flat_map, palette_colour, sym, take, ◌+◌, ◌-◌, ◌∙◌, ◌≡◌}
 use Rattle.pac_media.proofs.Blocks.{block-drawn}
-use Rattle.pac_media.proofs.image.redraw_block.Goals as goal
 
-pub returns : goal.returns
+pub returns : Rattle.pac_media.proofs.image.redraw_block.Goals.returns
 returns c =
     let part : c.args.start + 16 - c.args.start ≡ 16 = omega arith in
     block-drawn c.args.palette.now c.args.numbers.now c.args.pixels.now c.args.kept.now c.copy_from_slice.new.self c.colour.new.pixels

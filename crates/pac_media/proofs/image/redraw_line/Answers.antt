@@ -1,10 +1,7 @@
-use Rattle.std.proofs.Common.{◌≡◌, ◌*◌, ap, ◌∙◌, arith}
-use Rattle.std.specs.List.{flat_map}
-use Rattle.pac_media.specs.Images.{palette_colour}
+use Rattle.pac_media.proofs.Common.{ap, arith, flat_map, palette_colour, ◌*◌, ◌∙◌, ◌≡◌}
 use Rattle.pac_media.proofs.Blocks.{all-kept}
-use Rattle.pac_media.proofs.image.redraw_line.Goals as goal
 
-pub returns : goal.returns
+pub returns : Rattle.pac_media.proofs.image.redraw_line.Goals.returns
 returns c =
     let all : 32 * c.loop-part.part ≡ 288 = omega (arith, c.loop-part-test.false, c.loop-part.auto.part-end) in
     let same = all-kept c.args.palette.now c.args.numbers.now c.loop-part.pixels c.loop-part.kept (32 * c.loop-part.part) all

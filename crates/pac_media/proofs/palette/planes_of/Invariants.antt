@@ -1,7 +1,6 @@
 use Rattle.std.proofs.Common.{◌≡◌, ◌<◌, ℕ, [], ◌∷◌, length, get_or}
-use Rattle.pac_media.proofs.palette.planes_of.Given as goal
 
-abbrev pub invariant-loop-number : goal.invariant-loop-number
+abbrev pub invariant-loop-number : Rattle.pac_media.proofs.palette.planes_of.Given.invariant-loop-number
 invariant-loop-number l = record {
   red_long : length l.reds ≡ 16;
   green_long : length l.greens ≡ 16;

@@ -1,6 +1,4 @@
-use Rattle.std.proofs.Common.{arith}
-use Rattle.std.proofs.lemmas.Simd.{take_more_put_chunk}
-use Rattle.pac_media.proofs.palette.put_vector.Goals as goal
+use Rattle.pac_media.proofs.Common.{arith, take_more_put_chunk}
 
-pub returns-clause-text : goal.returns-clause-text
+pub returns-clause-text : Rattle.pac_media.proofs.palette.put_vector.Goals.returns-clause-text
 returns-clause-text c = grind (arith, take_more_put_chunk)

@@ -1,7 +1,5 @@
 -- What is after the place stays.
-use Rattle.std.proofs.Common.{rules}
-use Rattle.std.proofs.lemmas.Slice.{overwrites}
-use Rattle.pac_out.proofs.buffer.lay.Goals as goal
+use Rattle.pac_out.proofs.Common.{overwrites, rules}
 
-pub returns-clause-rest : goal.returns-clause-rest
+pub returns-clause-rest : Rattle.pac_out.proofs.buffer.lay.Goals.returns-clause-rest
 returns-clause-rest c = search (rules, overwrites)

@@ -1,7 +1,6 @@
 use Rattle.std.proofs.Common.{◌≡◌, ◌<◌, ◌+◌, ◌*◌, ℕ, true, false, get_or, length}
-use Rattle.pac_picture.proofs.clean.forget.Given as goal
 
-abbrev pub invariant-loop-line : goal.invariant-loop-line
+abbrev pub invariant-loop-line : Rattle.pac_picture.proofs.clean.forget.Given.invariant-loop-line
 invariant-loop-line l = record {
   long : length l.lines ≡ 224;
   lines : (n : ℕ) → get_or l.lines n false ≡ true → get_or l.initial.lines n false ≡ true;

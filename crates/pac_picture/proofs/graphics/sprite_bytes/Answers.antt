@@ -1,8 +1,6 @@
-use Rattle.std.proofs.Common.{◌<◌, length, get_or, ap, rules, arith}
-use Rattle.pac_lemmas.proofs.Lists.{set-one-more}
-use Rattle.pac_picture.proofs.graphics.sprite_bytes.Goals as goal
+use Rattle.pac_picture.proofs.Common.{ap, arith, get_or, length, rules, set-one-more, ◌<◌}
 
-pub loop-x-preserved : goal.loop-x-preserved
+pub loop-x-preserved : Rattle.pac_picture.proofs.graphics.sprite_bytes.Goals.loop-x-preserved
 loop-x-preserved c =
     let inside : c.loop-x.x < length c.loop-x.bytes = omega (arith, c.loop-x.invariant.long) in
     record {

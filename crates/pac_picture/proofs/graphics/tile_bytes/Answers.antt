@@ -1,7 +1,6 @@
 use Rattle.std.proofs.Common.{◌*◌, rules, arith}
 use Rattle.pac_picture.proofs.Decoded.{sixteen-read}
-use Rattle.pac_picture.proofs.graphics.tile_bytes.Goals as goal
 
-pub returns : goal.returns
+pub returns : Rattle.pac_picture.proofs.graphics.tile_bytes.Goals.returns
 returns c = λ k below.
     sixteen-read c.args.rom.now (16 * c.args.code) k (search rules) (omega (arith, c.ranges.code.fits)) below

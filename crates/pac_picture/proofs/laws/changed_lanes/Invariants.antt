@@ -1,7 +1,6 @@
 use Rattle.std.proofs.Common.{◌≡◌, ◌<◌, ◌*◌, ◌==◌, ℕ, not, false, get_or, length, slice_index}
-use Rattle.pac_picture.proofs.laws.changed_lanes.Given as goal
 
-abbrev pub invariant-loop-vector : goal.invariant-loop-vector
+abbrev pub invariant-loop-vector : Rattle.pac_picture.proofs.laws.changed_lanes.Given.invariant-loop-vector
 invariant-loop-vector l = record {
   long : length l.mask ≡ length l.initial.mask;
   within : (n : ℕ) → n < 16 * l.vector → get_or l.mask n false ≡ not (slice_index l.now n == slice_index l.shadow n);

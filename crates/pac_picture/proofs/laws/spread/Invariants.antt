@@ -1,7 +1,6 @@
 use Rattle.std.proofs.Common.{◌≡◌, ◌<◌, ◌+◌, ◌/◌, ◌%◌, ◌^◌, ◌==◌, ℕ, false, get_or, length}
-use Rattle.pac_picture.proofs.laws.spread.Given as goal
 
-abbrev pub invariant-loop-k : goal.invariant-loop-k
+abbrev pub invariant-loop-k : Rattle.pac_picture.proofs.laws.spread.Given.invariant-loop-k
 invariant-loop-k l = record {
   long : length l.mask ≡ length l.initial.mask;
   within : (n : ℕ) → n < l.k → get_or l.mask (l.start + n) false ≡ (l.bits / 2 ^ n % 2 == 1);

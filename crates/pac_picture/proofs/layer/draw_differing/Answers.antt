@@ -1,5 +1,4 @@
-use Rattle.std.proofs.Common.{sym, ◌∙◌}
-use Rattle.pac_picture.specs.Layer.{differing_cells}
+use Rattle.pac_picture.proofs.Common.{differing_cells, sym, ◌∙◌}
 use Rattle.pac_picture.proofs.Counts.{count-same}
 use Rattle.pac_picture.proofs.Stale.{row-counts}
 use Rattle.pac_picture.proofs.Strips.{cells-kept}

@@ -1,11 +1,7 @@
-use Rattle.std.proofs.Common.{◌≡◌, ◌/◌, ap, ◌∙◌, refl}
-use Rattle.pac_num.specs.Tabulate.{tabulate}
-use Rattle.pac_picture.specs.Layer.{cells_of, drawn_from, shadow_from}
-use Rattle.pac_picture.specs.LayerProofs.{kept_dot}
+use Rattle.pac_picture.proofs.Common.{ap, cells_of, drawn_from, kept_dot, refl, shadow_from, tabulate, ◌/◌, ◌∙◌, ◌≡◌}
 use Rattle.pac_picture.proofs.Layers.{line-kept}
-use Rattle.pac_picture.proofs.layer.lay_alone.Goals as goal
 
-pub returns : goal.returns
+pub returns : Rattle.pac_picture.proofs.layer.lay_alone.Goals.returns
 returns c =
     let roms = c.args.graphics.now in
     let shadow : shadow_from c.tiles.result c.colours.result ≡ drawn_from c.args.screen.now (c.args.y / 8) =

@@ -1,5 +1,4 @@
-use Rattle.std.proofs.Common.{rules, arith}
-use Rattle.std.proofs.lemmas.List.{places}
+use Rattle.pac_picture.proofs.Common.{arith, places, rules}
 use Rattle.pac_picture.proofs.Layers.{made-step, made-rest, made-end}
 use Rattle.pac_picture.proofs.layer.make_stale.Goals as goal
 

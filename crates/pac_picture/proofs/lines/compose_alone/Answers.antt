@@ -1,7 +1,6 @@
 use Rattle.pac_picture.proofs.Composed.{line-is}
-use Rattle.pac_picture.proofs.lines.compose_alone.Goals as goal
 
-pub returns : goal.returns
+pub returns : Rattle.pac_picture.proofs.lines.compose_alone.Goals.returns
 returns c =
     line-is c.args.graphics.now c.args.screen.now c.args.y c.lay_alone.new.out c.paint_unless_none.new.out c.turn.new.out
     (rw c.source-source.ensures.line at c.lay_alone.ensures)

@@ -1,7 +1,6 @@
 use Rattle.pac_picture.proofs.Composed.{line-is}
-use Rattle.pac_picture.proofs.lines.compose_line.Goals as goal
 
-pub returns : goal.returns
+pub returns : Rattle.pac_picture.proofs.lines.compose_line.Goals.returns
 returns c =
     line-is c.args.layer.now.roms c.args.screen.now c.args.y c.line.new.out c.paint_unless_none.new.out c.turn.new.out
     (rw (c.source-source.ensures.line, c.requires.drawn) at c.line.ensures)

@@ -1,5 +1,4 @@
-use Rattle.std.proofs.Common.{sym, ◌∙◌}
-use Rattle.pac_sprites.specs.Sprites.{is_in_box}
+use Rattle.pac_picture.proofs.Common.{is_in_box, sym, ◌∙◌}
 use Rattle.pac_picture.proofs.Dots.{answer-none, answer-some, dot-off, dot-on}
 use Rattle.pac_picture.proofs.painting.paint.Goals as goal
 

@@ -1,7 +1,4 @@
-use Rattle.std.proofs.Common.{◌≡◌, ◌<◌, ◌≤◌, ℕ, true, false, refl, slice_index, rules, arith}
-use Rattle.std.proofs.lemmas.Bool.Decides.{nat_tests}
-use Rattle.std.proofs.lemmas.List.{places}
-use Rattle.pac_sprites.specs.Sprites.{is_column_of}
+use Rattle.pac_picture.proofs.Common.{arith, false, is_column_of, nat_tests, places, refl, rules, slice_index, true, ℕ, ◌<◌, ◌≡◌, ◌≤◌}
 use Rattle.pac_picture.proofs.Dots.{line-begin, line-step, line-end}
 use Rattle.pac_picture.proofs.painting.paint_columns.Goals as goal
 

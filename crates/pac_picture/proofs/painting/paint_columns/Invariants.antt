@@ -1,8 +1,6 @@
-use Rattle.std.proofs.Common.{◌≡◌, ◌<◌, ℕ, length, get_or, nat_lt, if◌then◌else◌}
-use Rattle.pac_picture.specs.Painting.{over_line}
-use Rattle.pac_picture.proofs.painting.paint_columns.Given as goal
+use Rattle.pac_picture.proofs.Common.{get_or, if◌then◌else◌, length, nat_lt, over_line, ℕ, ◌<◌, ◌≡◌}
 
-abbrev pub invariant-loop-x : goal.invariant-loop-x
+abbrev pub invariant-loop-x : Rattle.pac_picture.proofs.painting.paint_columns.Given.invariant-loop-x
 invariant-loop-x l = record {
   long : length l.out ≡ 288;
   dots : (k : ℕ) → k < 288 →

@@ -1,8 +1,7 @@
 use Rattle.std.proofs.Common.{◌≡◌, ◌<◌, ◌+◌, arith}
 use Rattle.pac_picture.proofs.Blended.{box-painted}
-use Rattle.pac_picture.proofs.painting.paint_line.Goals as goal
 
-pub returns-then-columns : goal.returns-then-columns
+pub returns-then-columns : Rattle.pac_picture.proofs.painting.paint_line.Goals.returns-then-columns
 returns-then-columns c =
     let whole : c.columns-columns.result.end ≡ c.columns-columns.result.start + 16 = omega (arith, c.if-columns.true) in
     let some : c.columns-columns.result.start < c.columns-columns.result.end = omega (arith, whole) in

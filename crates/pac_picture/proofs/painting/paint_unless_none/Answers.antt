@@ -1,11 +1,9 @@
-use Rattle.std.proofs.Common.{◌*◌, slice_index, rules}
-use Rattle.pac_picture.specs.Picture.{sprite_at, sprite_dot}
+use Rattle.pac_picture.proofs.Common.{rules, slice_index, sprite_at, sprite_dot, ◌*◌}
 use Rattle.pac_picture.proofs.Painted.{none-painted}
 use Rattle.pac_picture.proofs.Boxes.{none-there}
 use Rattle.pac_picture.proofs.Dots.{dot-off}
-use Rattle.pac_picture.proofs.painting.paint_unless_none.Goals as goal
 
-pub returns-else-boxes-ne0 : goal.returns-else-boxes-ne0
+pub returns-else-boxes-ne0 : Rattle.pac_picture.proofs.painting.paint_unless_none.Goals.returns-else-boxes-ne0
 returns-else-boxes-ne0 c =
     let roms = c.args.graphics.now in
     let sprite = sprite_at c.args.screen.now in

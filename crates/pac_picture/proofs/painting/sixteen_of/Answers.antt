@@ -1,5 +1,4 @@
 use Rattle.pac_picture.proofs.Blended.{piece-read}
-use Rattle.pac_picture.proofs.painting.sixteen_of.Goals as goal
 
-pub returns : goal.returns
+pub returns : Rattle.pac_picture.proofs.painting.sixteen_of.Goals.returns
 returns c = λ k below. piece-read c.args.line.now c.args.start k c.requires below

@@ -1,5 +1,4 @@
-use Rattle.std.proofs.Common.{◌≡◌, ◌-◌, ◌∙◌, ap, refl, arith}
-use Rattle.pac_picture.specs.PictureProofs.{lines_composed}
+use Rattle.pac_picture.proofs.Common.{ap, arith, lines_composed, refl, ◌-◌, ◌∙◌, ◌≡◌}
 use Rattle.pac_picture.proofs.Composed.{line-on}
 use Rattle.pac_picture.proofs.picture.compose_each.Goals as goal
 

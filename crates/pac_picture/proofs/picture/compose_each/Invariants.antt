@@ -1,10 +1,6 @@
-use Rattle.std.proofs.Common.{◌≡◌, ◌<◌, ◌-◌}
-use Rattle.pac_picture.specs.CleanLines.{MarksClean}
-use Rattle.pac_picture.specs.Layer.{shadow_at, drawn_from}
-use Rattle.pac_picture.specs.PictureProofs.{lines_composed}
-use Rattle.pac_picture.proofs.picture.compose_each.Given as goal
+use Rattle.pac_picture.proofs.Common.{MarksClean, drawn_from, lines_composed, shadow_at, ◌-◌, ◌<◌, ◌≡◌}
 
-abbrev pub invariant-loop-y : goal.invariant-loop-y
+abbrev pub invariant-loop-y : Rattle.pac_picture.proofs.picture.compose_each.Given.invariant-loop-y
 invariant-loop-y l = record {
   done : l.lines ≡ lines_composed l.fn.layer.roms l.screen l.fn.lines l.fn.first (l.y - l.fn.first);
   roms : l.layer.roms ≡ l.fn.layer.roms;

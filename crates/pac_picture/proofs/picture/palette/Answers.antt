@@ -1,7 +1,4 @@
-use Rattle.std.proofs.Common.{◌≡◌, ◌<◌, [], length, rules, arith}
-use Rattle.pac_num.proofs.Tabulated.{tabulate-is}
-use Rattle.pac_lemmas.proofs.Lists.{set-one-more}
-use Rattle.pac_picture.specs.State.{palette_of}
+use Rattle.pac_picture.proofs.Common.{[], arith, length, palette_of, rules, set-one-more, tabulate-is, ◌<◌, ◌≡◌}
 use Rattle.pac_picture.proofs.picture.palette.Goals as goal
 
 pub loop-number-preserved : goal.loop-number-preserved

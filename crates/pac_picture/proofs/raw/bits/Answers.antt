@@ -1,8 +1,6 @@
-use Rattle.std.proofs.Common.{◌<◌, get_or, below_more, arith, bit_or}
-use Rattle.std.proofs.lemmas.Nat.{or_lt, le_or_l, le_or_r}
-use Rattle.pac_picture.proofs.raw.bits.Goals as goal
+use Rattle.pac_picture.proofs.Common.{arith, below_more, bit_or, get_or, le_or_l, le_or_r, or_lt, ◌<◌}
 
-pub loop-number-preserved : goal.loop-number-preserved
+pub loop-number-preserved : Rattle.pac_picture.proofs.raw.bits.Goals.loop-number-preserved
 loop-number-preserved c =
     let before = c.loop-number.bits in
     let number = get_or c.args.numbers.now c.loop-number.number-index 0 in (

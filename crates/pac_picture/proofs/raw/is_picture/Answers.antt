@@ -1,11 +1,7 @@
 -- All numbers of a picture, one line after another, are those of its lines.
-use Rattle.std.proofs.Common.{◌≡◌, ◌↔◌, ℕ, zero, suc, ◌+◌, ◌-◌, ◌<◌, ◌≤◌, List, [], ◌∷◌, ◌++◌, length, get_or, subst, sym, true, arith, length-append}
-use Rattle.std.specs.List.{flat_map}
-use Rattle.std.proofs.lemmas.Bool.{ltb-true, lt-ltb}
-use Rattle.std.proofs.lemmas.Grind.{common_steps}
-use Rattle.std.proofs.lemmas.List.{get_or_append_left, get_or-append-add, get_or-append_right, get_or_past}
-use Rattle.pac_picture.specs.State.{IsPicture}
-use Rattle.pac_picture.proofs.raw.is_picture.Goals as goal
+use Rattle.pac_picture.proofs.Common.{IsPicture, List, [], arith, common_steps, flat_map, get_or, get_or-append-add, get_or-append_right}
+use Rattle.pac_picture.proofs.Common.{get_or_append_left, get_or_past, length, length-append, lt-ltb, ltb-true, subst, suc, sym, true, zero}
+use Rattle.pac_picture.proofs.Common.{ℕ, ◌++◌, ◌+◌, ◌-◌, ◌<◌, ◌↔◌, ◌∷◌, ◌≡◌, ◌≤◌}
 
 abbrev flat : List (List ℕ) → List ℕ
 flat lines = flat_map (λ line. line) lines
@@ -28,7 +24,7 @@ of-all (line ∷ lines) below i =
     let later = of-all lines (λ x y. below x (suc y)) (i - length line) in
     grind (arith, first, later, get_or_append_left line (flat lines) 0 i, get_or-append_right line (flat lines) (length line) i 0)
 
-pub returns : goal.returns
+pub returns : Rattle.pac_picture.proofs.raw.is_picture.Goals.returns
 returns c =
     let lines = c.args.lines.now in
     let value = c.as_flattened.ensures.value in

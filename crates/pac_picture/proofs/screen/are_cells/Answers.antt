@@ -1,9 +1,7 @@
-use Rattle.std.proofs.Common.{slice_index}
-use Rattle.std.proofs.lemmas.Bool.{and_parts, eqb-true}
+use Rattle.pac_picture.proofs.Common.{and_parts, eqb-true, slice_index}
 use Rattle.pac_picture.proofs.Masks.{same-cells}
-use Rattle.pac_picture.proofs.screen.are_cells.Goals as goal
 
-pub returns : goal.returns
+pub returns : Rattle.pac_picture.proofs.screen.are_cells.Goals.returns
 returns c = λ none.
     let five = and_parts _ _ none in
     let four = and_parts _ _ five.0 in

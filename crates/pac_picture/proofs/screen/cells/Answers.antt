@@ -1,9 +1,7 @@
-use Rattle.std.proofs.Common.{refl, arith}
-use Rattle.std.proofs.lemmas.List.{places}
+use Rattle.pac_picture.proofs.Common.{arith, places, refl}
 use Rattle.pac_picture.proofs.Cells.{cells-are}
-use Rattle.pac_picture.proofs.screen.cells.Goals as goal
 
-pub returns : goal.returns
+pub returns : Rattle.pac_picture.proofs.screen.cells.Goals.returns
 returns c =
     cells-are c.args.ram.now c.copy_from_slice.new.self c.args.row _ _ _ _ c.copy_from_slice.ensures.len
     (λ n inside. rw c.copy_from_slice.ensures.after (grind (arith, places, inside)))

@@ -1,6 +1,5 @@
 use Rattle.std.proofs.Common.{eqb-true}
 use Rattle.pac_picture.proofs.Alike.{off-bits}
-use Rattle.pac_picture.proofs.screen.is_off.Goals as goal
 
-pub returns : goal.returns
+pub returns : Rattle.pac_picture.proofs.screen.is_off.Goals.returns
 returns c = λ none k below set. off-bits c.args.changed c.args.boxes k (eqb-true _ _ none) set

@@ -1,5 +1,4 @@
 use Rattle.pac_picture.proofs.Places.{repeated-is}
-use Rattle.pac_picture.proofs.size.repeated.Goals as goal
 
-pub returns : goal.returns
+pub returns : Rattle.pac_picture.proofs.size.repeated.Goals.returns
 returns g c = repeated-is g.row.N c.args.value

@@ -1,6 +1,4 @@
-use Rattle.std.proofs.Common.{[], get_or, rules, arith}
-use Rattle.pac_num.proofs.Tabulated.{tabulate-is}
-use Rattle.pac_picture.specs.LayerProofs.{row_dot}
+use Rattle.pac_picture.proofs.Common.{[], arith, get_or, row_dot, rules, tabulate-is}
 use Rattle.pac_picture.proofs.Strips.{line-more}
 use Rattle.pac_picture.proofs.strip.lay_line.Goals as goal
 

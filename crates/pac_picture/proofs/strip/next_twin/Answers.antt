@@ -1,7 +1,6 @@
 use Rattle.pac_picture.proofs.Strips.{twin-again}
-use Rattle.pac_picture.proofs.strip.next_twin.Goals as goal
 
-pub returns-then-are_like_left : goal.returns-then-are_like_left
+pub returns-then-are_like_left : Rattle.pac_picture.proofs.strip.next_twin.Goals.returns-then-are_like_left
 returns-then-are_like_left c =
     let is = c.if-are_like_left.true in
     let some = c.are_like_left.ensures.place is in

@@ -1,9 +1,6 @@
-use Rattle.std.proofs.Common.{◌≡◌, ◌<◌, ◌≤◌, ◌/◌, ◌%◌, ◌==◌, ℕ, [], length, get_or, if◌then◌else◌}
-use Rattle.pac_picture.specs.LayerProofs.{row_dot}
-use Rattle.pac_picture.specs.Strips.{twin_dot}
-use Rattle.pac_picture.proofs.strip.put_twin.Given as goal
+use Rattle.pac_picture.proofs.Common.{[], get_or, if◌then◌else◌, length, row_dot, twin_dot, ℕ, ◌%◌, ◌/◌, ◌<◌, ◌==◌, ◌≡◌, ◌≤◌}
 
-abbrev pub invariant-loop-y : goal.invariant-loop-y
+abbrev pub invariant-loop-y : Rattle.pac_picture.proofs.strip.put_twin.Given.invariant-loop-y
 invariant-loop-y l = record {
   long : length l.lines ≡ 8;
   done : (x k : ℕ) → k < l.y →

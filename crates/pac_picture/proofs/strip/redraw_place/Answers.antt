@@ -1,5 +1,4 @@
-use Rattle.std.proofs.Common.{sym, ◌∙◌}
-use Rattle.pac_picture.specs.Strips.{has_marked}
+use Rattle.pac_picture.proofs.Common.{has_marked, sym, ◌∙◌}
 use Rattle.pac_picture.proofs.Strips.{drawn-already, drawn-more}
 use Rattle.pac_picture.proofs.strip.redraw_place.Goals as goal
 

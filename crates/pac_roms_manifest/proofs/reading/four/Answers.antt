@@ -1,8 +1,4 @@
-use Rattle.std.proofs.Common.{◌≡◌, refl, arith}
-use Rattle.std.proofs.lemmas.Result.{err_from_is_err_and}
-use Rattle.toml.specs.Data.{array}
-use Rattle.toml.specs.View.{view, items_view}
-use Rattle.pac_roms_manifest.specs.Manifests.{program_form}
+use Rattle.pac_roms_manifest.proofs.Common.{arith, array, err_from_is_err_and, items_view, program_form, refl, view, ◌≡◌}
 use Rattle.pac_roms_manifest.proofs.Misreadings.{unread}
 use Rattle.pac_roms_manifest.proofs.Tables.{four_forms, four_tables}
 use Rattle.pac_roms_manifest.proofs.reading.four.Goals as goal

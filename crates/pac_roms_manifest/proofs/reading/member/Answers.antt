@@ -1,5 +1,4 @@
 use Rattle.toml.proofs.Views.{table_get}
-use Rattle.pac_roms_manifest.proofs.reading.member.Goals as goal
 
-pub returns : goal.returns
+pub returns : Rattle.pac_roms_manifest.proofs.reading.member.Goals.returns
 returns c = table_get c.get.result c.args.key.now c.args.table.now.entries c.get.ensures.value

@@ -1,7 +1,4 @@
-use Rattle.std.proofs.Common.{ap, arith}
-use Rattle.std.proofs.lemmas.Result.{err_from_is_err_and}
-use Rattle.pac_run.specs.declared.watch.Watching.{Watching}
-use Rattle.pac_run.specs.Run.{writings}
+use Rattle.pac_run.proofs.Common.{Watching, ap, arith, err_from_is_err_and, writings}
 use Rattle.pac_run.proofs.Carried.{debugs}
 use Rattle.pac_run.proofs.Debugged.{debugged, ready-session, refused-all}
 use Rattle.pac_run.proofs.Lent.{carries-back, itself}

@@ -1,9 +1,4 @@
-use Rattle.std.proofs.Common.{◌∙◌, refl}
-use Rattle.pac_media.specs.WritesProofs.{lent_took, lent_refused}
-use Rattle.pac_run.specs.declared.fault.Output.TheVariants.{Wave}
-use Rattle.pac_run.specs.Playing.{played}
-use Rattle.pac_run.specs.Recorded.{reel}
-use Rattle.pac_run.specs.Run.{writing}
+use Rattle.pac_run.proofs.Common.{Wave, lent_refused, lent_took, played, reel, refl, writing, ◌∙◌}
 use Rattle.pac_run.proofs.Played.{begun, header-broke}
 use Rattle.pac_run.proofs.Lent.{breaks, carries-back, itself, records}
 use Rattle.pac_run.proofs.film.record_run.Goals as goal

@@ -1,5 +1,4 @@
 use Rattle.pac_run.proofs.InParts.{runs-in-parts}
-use Rattle.pac_run.proofs.laws.runs_in_parts.Goals as goal
 
-pub returns : goal.returns
+pub returns : Rattle.pac_run.proofs.laws.runs_in_parts.Goals.returns
 returns g = runs-in-parts

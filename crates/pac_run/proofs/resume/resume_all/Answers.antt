@@ -1,5 +1,4 @@
-use Rattle.std.proofs.Common.{option_copied, refl, rules}
-use Rattle.pac_run.specs.Run.{writing, writings}
+use Rattle.pac_run.proofs.Common.{option_copied, refl, rules, writing, writings}
 use Rattle.pac_run.proofs.Answered.{save-refused, unsaved}
 use Rattle.pac_run.proofs.resume.resume_all.Goals as goal
 

@@ -1,9 +1,7 @@
-use Rattle.std.proofs.Common.{option_copied}
-use Rattle.pac_run.specs.Plan.{listing_in}
+use Rattle.pac_run.proofs.Common.{listing_in, option_copied}
 use Rattle.pac_run.proofs.Lent.{written}
-use Rattle.pac_run.proofs.run.list.Goals as goal
 
-pub returns : goal.returns
+pub returns : Rattle.pac_run.proofs.run.list.Goals.returns
 returns g c =
     written g.L.Out.took g.L.Out.refused _ _ c.put_listing-written.result
     (listing_in (option_copied c.args.source) c.args.program.now) c.new-file.result c.put_listing-written.new.file c.new-file.ensures

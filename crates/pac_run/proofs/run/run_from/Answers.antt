@@ -1,8 +1,4 @@
-use Rattle.std.proofs.Common.{option_copied, subst, arith}
-use Rattle.std.proofs.lemmas.Result.{err_from_is_err_and}
-use Rattle.pac_board_course.specs.State.{BoardValue}
-use Rattle.pac_state.specs.Files.{IsState}
-use Rattle.pac_run.specs.Run.{writings}
+use Rattle.pac_run.proofs.Common.{BoardValue, IsState, arith, err_from_is_err_and, option_copied, subst, writings}
 use Rattle.pac_run.proofs.Answered.{unbegun}
 use Rattle.pac_run.proofs.Resumed.{held-back-early, ran-to}
 use Rattle.pac_run.proofs.run.run_from.Goals as goal

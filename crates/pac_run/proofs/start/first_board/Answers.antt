@@ -1,11 +1,8 @@
-use Rattle.std.proofs.Common.{subst, sym, rules}
+use Rattle.pac_run.proofs.Common.{IsFirstBoard, IsStarted, rules, subst, sym}
 use Rattle.std.specs.Prelude.{option_copied}
-use Rattle.pac_run.specs.Start.{IsFirstBoard}
-use Rattle.pac_run.specs.Started.{IsStarted}
 use Rattle.pac_run.proofs.Begins.{from-power-on}
-use Rattle.pac_run.proofs.start.first_board.Goals as goal
 
-pub returns-in-Ok : goal.returns-in-Ok
+pub returns-in-Ok : Rattle.pac_run.proofs.start.first_board.Goals.returns-in-Ok
 returns-in-Ok c =
     let set = c.args.set.now in
     let script = c.args.script.now in

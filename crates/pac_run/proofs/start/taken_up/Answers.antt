@@ -1,7 +1,4 @@
-use Rattle.std.proofs.Common.{◌≡◌, ap, sym, subst, ◌∙◌}
-use Rattle.pac_board_course.specs.State.{BoardValue}
-use Rattle.pac_state.specs.Files.{IsState}
-use Rattle.pac_run.specs.Start.{start_fault}
+use Rattle.pac_run.proofs.Common.{BoardValue, IsState, ap, start_fault, subst, sym, ◌∙◌, ◌≡◌}
 use Rattle.pac_run.proofs.Begins.{no-start, taken-up, unloaded}
 use Rattle.pac_run.proofs.start.taken_up.Goals as goal
 

@@ -1,11 +1,8 @@
-use Rattle.std.specs.Str.Lines.{lines}
-use Rattle.pac_board_course.specs.SinksLaws.{by}
-use Rattle.pac_media.specs.WritesProofs.{lent_took, lent_refused}
+use Rattle.pac_run.proofs.Common.{by, lent_refused, lent_took, lines}
 use Rattle.pac_run.proofs.Lent.{carries-back}
 use Rattle.pac_run.proofs.Watching.{plays}
-use Rattle.pac_run.proofs.watch.watch_new.Goals as goal
 
-pub returns : goal.returns
+pub returns : Rattle.pac_run.proofs.watch.watch_new.Goals.returns
 returns g c =
     plays (by g.S.Sink.took g.S.Sink.refused) (lent_took g.T.Out.took) (lent_refused g.T.Out.refused) (lines c.args.commands.now)
     (record { session = c.args.session; sink = c.args.sink.now; text = c.new-words.result })

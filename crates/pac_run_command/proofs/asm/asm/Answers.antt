@@ -1,4 +1,2 @@
-use Rattle.pac_run_command.proofs.asm.asm.Goals as goal
-
-pub returns-in-Ok : goal.returns-in-Ok
+pub returns-in-Ok : Rattle.pac_run_command.proofs.asm.asm.Goals.returns-in-Ok
 returns-in-Ok g c = c.assemble_into.ensures

@@ -1,7 +1,6 @@
 use Rattle.std.proofs.Common.{inl}
-use Rattle.pac_run_command.proofs.asm.assemble_into.Goals as goal
 
-pub returns : goal.returns
+pub returns : Rattle.pac_run_command.proofs.asm.assemble_into.Goals.returns
 returns g c = inl (record {
   source = c.args.source.now;
   source_is = c.requires;

@@ -1,10 +1,6 @@
-use Rattle.std.proofs.Common.{subst}
-use Rattle.pac_run.specs.CountedProofs.{Puts}
-use Rattle.pac_run.specs.WritesProofs.{lent_took, lent_refused}
-use Rattle.pac_run.proofs.Lent.{written}
-use Rattle.pac_run_command.proofs.asm.put_rom.Goals as goal
+use Rattle.pac_run_command.proofs.Common.{Puts, lent_refused, lent_took, subst, written}
 
-pub returns : goal.returns
+pub returns : Rattle.pac_run_command.proofs.asm.put_rom.Goals.returns
 returns g c =
     written g.R.Out.took g.R.Out.refused _ _ c.put-written.result c.args.program.now.rom c.new-file.result
     c.put-written.new.self c.new-file.ensures

@@ -1,11 +1,7 @@
-use Rattle.std.proofs.Common.{◌≡◌}
-use Rattle.pac_run.specs.Run.{writing}
-use Rattle.pac_run_options.specs.CommandLineProofs.{told_debug}
-use Rattle.pac_run_command.specs.EndingsProofs.{ending_told}
+use Rattle.pac_run_command.proofs.Common.{ending_told, told_debug, writing, ◌≡◌}
 use Rattle.pac_run_command.proofs.Recorded.{once-watched}
-use Rattle.pac_run_command.proofs.debug.debug.Goals as goal
 
-pub returns-in-Ok-clause-watches : goal.returns-in-Ok-clause-watches
+pub returns-in-Ok-clause-watches : Rattle.pac_run_command.proofs.debug.debug.Goals.returns-in-Ok-clause-watches
 returns-in-Ok-clause-watches g c =
     once-watched (g.D.FileSystem.finds c.args.disk.now) g.D.FileSystem.handling g.D.File.Out.took g.D.File.Out.refused
     (writing g.R.Out.took g.R.Out.refused c.args.report.now c.run_given.new.report)

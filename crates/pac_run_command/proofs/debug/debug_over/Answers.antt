@@ -1,9 +1,7 @@
-use Rattle.std.proofs.Common.{refl}
+use Rattle.pac_run_command.proofs.Common.{carries, refl}
 use Rattle.pac_run_command.proofs.Performed.{watched}
-use Rattle.pac_run.proofs.Lent.{carries}
-use Rattle.pac_run_command.proofs.debug.debug_over.Goals as goal
 
-pub returns : goal.returns
+pub returns : Rattle.pac_run_command.proofs.debug.debug_over.Goals.returns
 returns g c = (
   watched _ _
       (carries g.F.Out.took g.F.Out.refused _ _ _ (assumption)) (carries g.F.Out.took g.F.Out.refused _ _ _ (assumption))

@@ -1,5 +1,4 @@
 use Rattle.pac_run_command.proofs.WholeOutputs.{outputs-whole}
-use Rattle.pac_run_command.proofs.laws.outputs_are_whole.Goals as goal
 
-pub returns : goal.returns
+pub returns : Rattle.pac_run_command.proofs.laws.outputs_are_whole.Goals.returns
 returns g c = outputs-whole _ _ _ _ _ _ _

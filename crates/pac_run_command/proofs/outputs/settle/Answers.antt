@@ -1,6 +1,4 @@
-use Rattle.pac_run_command.proofs.outputs.settle.Goals as goal
-
-pub returns : goal.returns
+pub returns : Rattle.pac_run_command.proofs.outputs.settle.Goals.returns
 returns g c = record {
   so_far = c.write_all_out-ran.result;
   written = c.write_all_out-ran.new.disk;

@@ -1,6 +1,4 @@
-use Rattle.pac_run_command.proofs.outputs.settle_all.Goals as goal
-
-pub returns : goal.returns
+pub returns : Rattle.pac_run_command.proofs.outputs.settle_all.Goals.returns
 returns g c = (
   c.settle_output-ran.new.disk,
   c.settle_output-ran.result,

@@ -1,6 +1,4 @@
-use Rattle.pac_run_command.proofs.outputs.write_all_out.Goals as goal
-
-pub returns : goal.returns
+pub returns : Rattle.pac_run_command.proofs.outputs.write_all_out.Goals.returns
 returns g c = (
   c.write_out-ran.new.disk,
   c.write_out-ran.result,

@@ -1,11 +1,7 @@
-use Rattle.std.proofs.Common.{◌≡◌}
-use Rattle.pac_run.specs.Run.{writing}
-use Rattle.pac_run_options.specs.CommandLineProofs.{told_play}
-use Rattle.pac_run_command.specs.EndingsProofs.{ending_told}
+use Rattle.pac_run_command.proofs.Common.{ending_told, told_play, writing, ◌≡◌}
 use Rattle.pac_run_command.proofs.Recorded.{once-played}
-use Rattle.pac_run_command.proofs.play.play.Goals as goal
 
-pub returns-in-Ok-clause-plays : goal.returns-in-Ok-clause-plays
+pub returns-in-Ok-clause-plays : Rattle.pac_run_command.proofs.play.play.Goals.returns-in-Ok-clause-plays
 returns-in-Ok-clause-plays g c =
     once-played (g.D.FileSystem.finds c.args.disk.now) g.D.FileSystem.handling g.D.File.Out.took g.D.File.Out.refused
     (writing g.R.Out.took g.R.Out.refused c.args.report.now c.run_given.new.report) (c.run_given.new.report ≡ c.args.report.now)

@@ -1,6 +1,4 @@
-use Rattle.std.proofs.Common.{refl}
-use Rattle.pac_run.specs.Run.{writing, writings}
-use Rattle.pac_run.specs.Writes.{refused_if_there, took_if_there}
+use Rattle.pac_run_command.proofs.Common.{refl, refused_if_there, took_if_there, writing, writings}
 use Rattle.pac_run_command.proofs.Performed.{resumed, started}
 use Rattle.pac_run_command.proofs.play.run_or_resume.Goals as goal
 

@@ -1,9 +1,8 @@
 use Rattle.std.proofs.Common.{option_copied}
 use Rattle.pac_run_command.proofs.Performed.{performed}
 use Rattle.pac_run.proofs.Lent.{carries}
-use Rattle.pac_run_command.proofs.play.run_over.Goals as goal
 
-pub returns : goal.returns
+pub returns : Rattle.pac_run_command.proofs.play.run_over.Goals.returns
 returns g c =
     performed _ _
     (carries g.F.Out.took g.F.Out.refused _ _ _ (assumption)) (carries g.F.Out.took g.F.Out.refused _ _ _ (assumption))

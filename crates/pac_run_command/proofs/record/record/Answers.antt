@@ -1,6 +1,4 @@
-use Rattle.std.proofs.Common.{inl, inr, refl, rules, subst}
-use Rattle.pac_run_files.specs.Files.{AllBegun}
-use Rattle.pac_run_command.specs.Outputs.{Settles, run_output_files}
+use Rattle.pac_run_command.proofs.Common.{AllBegun, Settles, inl, inr, refl, rules, run_output_files, subst}
 use Rattle.pac_run_command.proofs.Recorded.{silent-in}
 use Rattle.pac_run_command.proofs.Unbegun.{uncreated}
 use Rattle.pac_run_command.proofs.record.record.Goals as goal

@@ -1,8 +1,4 @@
-use Rattle.std.proofs.Common.{inl, inr, refl, Vec, Global}
-use Rattle.pac_run_options.specs.CommandLineProofs.{told_run}
-use Rattle.pac_run_files.specs.Read.{HasParts, manifest_part_names}
-use Rattle.pac_run_files.specs.declared.parts.NamedFile.{NamedFile}
-use Rattle.pac_run_command.specs.declared.failure.Failure.TheVariants.{Memory}
+use Rattle.pac_run_command.proofs.Common.{Global, HasParts, Memory, NamedFile, Vec, inl, inr, manifest_part_names, refl, told_run}
 use Rattle.pac_run_command.proofs.Reading.{unread-reason, part-unread, all-read}
 use Rattle.pac_run_command.proofs.Recorded.{silent-in}
 use Rattle.pac_run_command.proofs.record.run_given.Goals as goal

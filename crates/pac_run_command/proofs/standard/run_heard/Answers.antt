@@ -1,7 +1,6 @@
 use Rattle.std.proofs.Common.{inr}
-use Rattle.pac_run_command.proofs.standard.run_heard.Goals as goal
 
-pub returns-in_default-clause-hears : goal.returns-in_default-clause-hears
+pub returns-in_default-clause-hears : Rattle.pac_run_command.proofs.standard.run_heard.Goals.returns-in_default-clause-hears
 returns-in_default-clause-hears g c = inr (record {
   disk = record { rt = c.args.rt };
   disk_left = c.work_unkept.new.disk;

@@ -1,10 +1,5 @@
-use Rattle.std.proofs.Common.{◌≡◌, ℕ, None, Some, rules, ap, ◌∙◌, arith, subst, List, [], ◌∷◌}
-use Rattle.std.proofs.lemmas.Str.Pattern.{split_parts}
-use Rattle.pac_run_files.specs.Names.{slash, name_parts}
-use Rattle.pac_run_files.specs.Links.{FindsLink}
-use Rattle.pac_run_files.specs.LinksProofs.{way_of_place, MeetsPart}
-use Rattle.pac_run_files.specs.declared.links.PlaceReached.{PlaceReached}
-use Rattle.pac_run_files.specs.declared.links.Met.{Met}
+use Rattle.pac_run_files.proofs.Common.{FindsLink, List, MeetsPart, Met, None, PlaceReached, Some, [], ap, arith, name_parts, rules, slash}
+use Rattle.pac_run_files.proofs.Common.{split_parts, subst, way_of_place, ℕ, ◌∙◌, ◌∷◌, ◌≡◌}
 use Rattle.pac_run_files.specs.declared.links.Met.TheVariants as met
 use Rattle.pac_run_files.proofs.NameParts.{parts-split, parts-none}
 use Rattle.pac_run_files.proofs.Following.{part-on, part-out, at-parts, at-link}

@@ -1,8 +1,6 @@
-use Rattle.std.proofs.Common.{ℕ, length}
+use Rattle.pac_run_files.proofs.Common.{IsReached, length, name_parts, way_of_place, ℕ}
 use denote.Text.{Utf8}
 use denote.Shadow.{shadow}
-use Rattle.pac_run_files.specs.Names.{name_parts}
-use Rattle.pac_run_files.specs.LinksProofs.{way_of_place, IsReached}
 use Rattle.pac_run_files.proofs.links.follow.Given as goal
 
 abbrev pub invariant-parts : goal.invariant-parts

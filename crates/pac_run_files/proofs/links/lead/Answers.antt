@@ -1,9 +1,4 @@
-use Rattle.std.proofs.Common.{◌≡◌, ℕ, List, string_bytes, rules, subst}
-use Rattle.pac_run_files.specs.Names.{name_parts}
-use Rattle.pac_run_files.specs.Links.{FindsLink}
-use Rattle.pac_run_files.specs.LinksProofs.{Follows}
-use Rattle.pac_run_files.specs.declared.links.PlaceReached.{PlaceReached}
-use Rattle.pac_run_files.specs.declared.links.Rest.{Rest}
+use Rattle.pac_run_files.proofs.Common.{FindsLink, Follows, List, PlaceReached, Rest, name_parts, rules, string_bytes, subst, ℕ, ◌≡◌}
 use Rattle.pac_run_files.specs.declared.links.Rest.TheVariants as rest
 use Rattle.pac_run_files.proofs.Following.{lead-end, lead-out, lead-none, link-on, along-none, along-zero}
 use Rattle.pac_run_files.proofs.links.lead.Goals as goal

@@ -1,7 +1,4 @@
-use Rattle.std.proofs.Common.{string_bytes}
-use Rattle.pac_run_files.specs.Names.{name_parts}
-use Rattle.pac_run_files.specs.Links.{way_from}
-use Rattle.pac_run_files.specs.LinksProofs.{way_of_place, IsReached}
+use Rattle.pac_run_files.proofs.Common.{IsReached, name_parts, string_bytes, way_from, way_of_place}
 use Rattle.pac_run_files.proofs.links.lead.Given as goal
 
 abbrev pub invariant-links : goal.invariant-links

@@ -1,6 +1,4 @@
-use Rattle.std.proofs.Common.{Bool, ◌||◌, None, Some, rules, sym, ap, ◌∙◌, arith}
-use Rattle.std.proofs.lemmas.Str.Pattern.{split_parts}
-use Rattle.pac_run_files.specs.Names.{slash, climbs}
+use Rattle.pac_run_files.proofs.Common.{Bool, None, Some, ap, arith, climbs, rules, slash, split_parts, sym, ◌||◌, ◌∙◌}
 use Rattle.pac_run_files.proofs.NameParts.{climbs-split, climbs-none}
 use Rattle.pac_run_files.proofs.names.climbs.Goals as goal
 

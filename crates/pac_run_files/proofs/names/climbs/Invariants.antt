@@ -1,7 +1,6 @@
-use Rattle.std.proofs.Common.{◌≡◌, length}
+use Rattle.pac_run_files.proofs.Common.{climbs, length, ◌≡◌}
 use denote.Text.{Utf8}
 use denote.Shadow.{shadow}
-use Rattle.pac_run_files.specs.Names.{climbs}
 use Rattle.pac_run_files.proofs.names.climbs.Given as goal
 
 abbrev pub invariant-parts : goal.invariant-parts

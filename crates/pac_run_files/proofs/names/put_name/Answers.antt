@@ -1,11 +1,7 @@
-use Rattle.std.proofs.Common.{flat_map, sym, ap, ◌∙◌, map-id}
-use Rattle.std.proofs.Output.{has_written_of_eq}
-use Rattle.std.proofs.lemmas.Iterator.{YieldsList-from_chars}
-use Rattle.std.proofs.lemmas.Iterator.Consumers.{YieldsList-end}
-use Rattle.pac_run_files.specs.Names.{told_character}
-use Rattle.pac_run_files.proofs.names.put_name.Goals as goal
+use Rattle.pac_run_files.proofs.Common.{YieldsList-end, YieldsList-from_chars, ap, flat_map, has_written_of_eq, map-id, sym, told_character}
+use Rattle.pac_run_files.proofs.Common.{◌∙◌}
 
-pub returns : goal.returns
+pub returns : Rattle.pac_run_files.proofs.names.put_name.Goals.returns
 returns g c = λ plain ok.
     let end = YieldsList-end (YieldsList-from_chars c.args.name.now c.utf8.name cc) c.loop-character.yielded _ c.loop-character.yielded_by
     _ _

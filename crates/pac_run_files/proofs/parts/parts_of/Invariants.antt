@@ -1,6 +1,4 @@
-use Rattle.std.proofs.Common.{◌≡◌, map, take}
-use Rattle.pac_run_files.specs.Read.{told_file, told_part}
-use Rattle.pac_run_files.proofs.parts.parts_of.Given as goal
+use Rattle.pac_run_files.proofs.Common.{map, take, told_file, told_part, ◌≡◌}
 
-abbrev pub invariant-loop-name : goal.invariant-loop-name
+abbrev pub invariant-loop-name : Rattle.pac_run_files.proofs.parts.parts_of.Given.invariant-loop-name
 invariant-loop-name l = map told_part l.parts.items ≡ map told_file (take l.name-index l.named)

@@ -1,8 +1,5 @@
-use Rattle.std.proofs.Common.{ℕ, ◌+◌, List, [], ◌∷◌, ◌++◌, map, take, drop, get_or, Vec, Global, subst, rules}
-use Rattle.pac_lemmas.proofs.Pieces.{map-one-more, map-split}
-use Rattle.pac_run_files.specs.Files.{IsUnread, FirstUnread, standing_by}
-use Rattle.pac_run_files.specs.Read.{IsPart, HasParts, part_files}
-use Rattle.pac_run_files.specs.declared.parts.NamedFile.{NamedFile}
+use Rattle.pac_run_files.proofs.Common.{FirstUnread, Global, HasParts, IsPart, IsUnread, List, NamedFile, Vec, [], drop, get_or, map}
+use Rattle.pac_run_files.proofs.Common.{map-one-more, map-split, part_files, rules, standing_by, subst, take, ℕ, ◌++◌, ◌+◌, ◌∷◌}
 use Rattle.pac_run_files.proofs.Reading.{as-first, part-more, unread-after}
 use Rattle.pac_run_files.proofs.parts.read_all.Goals as goal
 

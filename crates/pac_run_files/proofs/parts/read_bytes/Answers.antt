@@ -1,10 +1,8 @@
-use Rattle.std.proofs.Common.{List, ℕ, Option, Some, String, Global, option_map, string_bytes, rules, sym, subst}
-use Rattle.pac_run_files.specs.Links.{Leads}
-use Rattle.pac_run_files.specs.Files.{folder_of}
+use Rattle.pac_run_files.proofs.Common.{Global, Leads, List, Option, Some, String, folder_of, option_map, rules, string_bytes, subst, sym}
+use Rattle.pac_run_files.proofs.Common.{ℕ}
 use Rattle.pac_run_files.proofs.Reading.{placed-reads}
-use Rattle.pac_run_files.proofs.parts.read_bytes.Goals as goal
 
-pub returns-in-Ok-Some : goal.returns-in-Ok-Some
+pub returns-in-Ok-Some : Rattle.pac_run_files.proofs.parts.read_bytes.Goals.returns-in-Ok-Some
 returns-in-Ok-Some g c =
     let finds = g.D.FileSystem.finds c.args.disk.now in
     let set = c.args.set.now in

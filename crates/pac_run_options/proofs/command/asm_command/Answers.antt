@@ -1,4 +1,2 @@
-use Rattle.pac_run_options.proofs.command.asm_command.Goals as goal
-
-pub returns : goal.returns
+pub returns : Rattle.pac_run_options.proofs.command.asm_command.Goals.returns
 returns c = c.subcommand.ensures

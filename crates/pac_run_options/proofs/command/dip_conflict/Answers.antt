@@ -1,4 +1,2 @@
-use Rattle.pac_run_options.proofs.command.dip_conflict.Goals as goal
-
-pub returns : goal.returns
+pub returns : Rattle.pac_run_options.proofs.command.dip_conflict.Goals.returns
 returns c = c.error.ensures.kind

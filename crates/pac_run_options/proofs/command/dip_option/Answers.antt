@@ -1,11 +1,8 @@
-use Rattle.std.proofs.Common.{◌≡◌, ◌∷◌, Some, [], ap, codes, rules}
-use Rattle.std.specs.Prelude.{pos}
-use Rattle.clap.specs.Words.{Rule, rule_of}
+use Rattle.pac_run_options.proofs.Common.{Rule, Some, [], ap, codes, pos, rule_of, rules, ◌∷◌, ◌≡◌}
 use Rattle.clap.specs.declared.builder.value_parser.ValueParser.TheVariants as parser
 use Rattle.pac_run_options.specs.CommandLine as line
-use Rattle.pac_run_options.proofs.command.dip_option.Goals as goal
 
-pub returns : goal.returns
+pub returns : Rattle.pac_run_options.proofs.command.dip_option.Goals.returns
 returns c =
     let before : rule_of c.value_parser-2.result ≡ record (line.option (codes "dip")) { parser = Some (parser.Signed (pos 0) (pos 255)) } =
     search rules in

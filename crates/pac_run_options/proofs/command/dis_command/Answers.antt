@@ -1,4 +1,2 @@
-use Rattle.pac_run_options.proofs.command.dis_command.Goals as goal
-
-pub returns : goal.returns
+pub returns : Rattle.pac_run_options.proofs.command.dis_command.Goals.returns
 returns c = c.subcommand.ensures

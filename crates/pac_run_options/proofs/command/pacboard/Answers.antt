@@ -1,12 +1,7 @@
-use Rattle.std.proofs.Common.{◌≡◌, ◌∙◌, ◌∷◌, List, [], codes, fold, refl, true}
-use Rattle.std.proofs.lemmas.Result.{IfOk-weaker}
-use Rattle.clap.specs.Words.{App}
-use Rattle.clap.specs.Simple.{new_shape, with_subcommand}
+use Rattle.pac_run_options.proofs.Common.{App, IfOk-weaker, List, [], app_of_command, codes, fold, new_shape, pacboard, refl, true}
+use Rattle.pac_run_options.proofs.Common.{with_subcommand, ◌∙◌, ◌∷◌, ◌≡◌}
 use Rattle.pac_run_options.specs.CommandLine as line
-use Rattle.pac_run_options.specs.CommandLine.{pacboard}
 use Rattle.pac_run_options.proofs.Commands.{added-commands}
-use Rattle.pac_run_options.proofs.command.pacboard.Goals as goal
-use Rattle.pac_run_options.specs.CommandLineProofs.{app_of_command}
 
 -- the program before its subcommands, and these
 abbrev bare : App
@@ -24,7 +19,7 @@ with-four : fold (λ top below. with_subcommand top below.top) bare four ≡ pac
 unfolding pacboard
 with-four = refl
 
-pub returns : goal.returns
+pub returns : Rattle.pac_run_options.proofs.command.pacboard.Goals.returns
 returns c = IfOk-weaker c.subcommands-2.result _ _ (λ r h.
     added-commands four c.in_ok-subcommands.subcommands.items c.program.result r bare refl c.in_ok-subcommands.ensures c.program.ensures h
     ∙ with-four) c.subcommands-2.ensures

@@ -1,10 +1,7 @@
-use Rattle.std.proofs.Common.{◌∙◌, ap}
-use Rattle.std.proofs.lemmas.Result.{IfOk-weaker}
-use Rattle.clap.specs.Simple.{app_of_fields}
+use Rattle.pac_run_options.proofs.Common.{IfOk-weaker, ap, app_of_fields, ◌∙◌}
 use Rattle.pac_run_options.proofs.Commands.{both-added, with-rows}
-use Rattle.pac_run_options.proofs.command.subcommand.Goals as goal
 
-pub returns : goal.returns
+pub returns : Rattle.pac_run_options.proofs.command.subcommand.Goals.returns
 returns c =
     let shared = c.args.shared.now in
     let own = c.args.own.now in

@@ -1,10 +1,7 @@
-use Rattle.std.proofs.Common.{codes, sym}
-use Rattle.std.specs.Str.Parse.{ExplainsUnsignedError, HasUnsignedDigitsIfOk, ParsesUnsigned}
-use Rattle.clap.specs.Words.{found_of}
+use Rattle.pac_run_options.proofs.Common.{ExplainsUnsignedError, HasUnsignedDigitsIfOk, ParsesUnsigned, codes, found_of, sym}
 use Rattle.pac_run_options.proofs.Bytes.{dip_read}
-use Rattle.pac_run_options.proofs.reading.dip_switches.Goals as goal
 
-pub returns : goal.returns
+pub returns : Rattle.pac_run_options.proofs.reading.dip_switches.Goals.returns
 returns c =
     sym (dip_read (found_of c.args.values.now) (codes "dip")
     (λ bs r. ParsesUnsigned 8 10 bs r × ExplainsUnsignedError 10 bs r × HasUnsignedDigitsIfOk bs r) _

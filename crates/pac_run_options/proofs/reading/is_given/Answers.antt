@@ -1,6 +1,4 @@
-use Rattle.std.proofs.Common.{◌∙◌, Some, ap, sym}
-use Rattle.clap.specs.Words.{found_of}
-use Rattle.clap.specs.declared.parser.matches.ValueSource.{ValueSource}
+use Rattle.pac_run_options.proofs.Common.{Some, ValueSource, ap, found_of, sym, ◌∙◌}
 use Rattle.pac_run_options.proofs.Rows.{given_by-source}
 use Rattle.pac_run_options.proofs.reading.is_given.Goals as goal
 

@@ -1,6 +1,4 @@
-use Rattle.std.proofs.Common.{map, sym}
-use Rattle.clap.specs.Words.{app_of, subcommand_rows_of}
-use Rattle.clap.proofs.FaultLemmas.{failed_up}
+use Rattle.pac_run_options.proofs.Common.{app_of, failed_up, map, subcommand_rows_of, sym}
 use Rattle.pac_run_options.specs.CommandLine as line
 use Rattle.pac_run_options.proofs.Answered.{its_command, its_conflict, its_fault, its_lack, its_request, no_fault, none_left}
 use Rattle.pac_run_options.proofs.reading.options.Goals as goal

@@ -1,7 +1,4 @@
-use Rattle.std.proofs.Common.{◌∙◌}
-use Rattle.clap.specs.Words.{found_of}
-use Rattle.clap.proofs.WalkLemmas.{first_value-rows}
-use Rattle.pac_run_options.proofs.reading.text.Goals as goal
+use Rattle.pac_run_options.proofs.Common.{first_value-rows, found_of, ◌∙◌}
 
-pub returns : goal.returns
+pub returns : Rattle.pac_run_options.proofs.reading.text.Goals.returns
 returns c = c.get_str.ensures ∙ first_value-rows (found_of c.args.values.now) c.args.id.now

@@ -1,7 +1,5 @@
 -- All of it is counted, or it is more than can be.
-use Rattle.std.proofs.Common.{ap, refl, subst, ◌<◌, ◌^◌, ◌∙◌, arith}
-use Rattle.pac_listing.specs.Listing.{listing}
-use Rattle.pac_source.specs.declared.size.Size.{Size}
+use Rattle.pac_source.proofs.Common.{Size, ap, arith, listing, refl, subst, ◌<◌, ◌^◌, ◌∙◌}
 use Rattle.pac_source.proofs.Writing.{counted, greatest-counted}
 use Rattle.pac_source.proofs.assembly.listing_size.Goals as goal
 

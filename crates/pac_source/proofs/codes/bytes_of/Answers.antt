@@ -1,8 +1,6 @@
 -- The bytes of what is told, number by number.
-use Rattle.std.proofs.Common.{refl}
-use Rattle.pac_source.specs.Codes.{told_bytes}
-use Rattle.pac_source.proofs.codes.bytes_of.Goals as goal
+use Rattle.pac_source.proofs.Common.{refl, told_bytes}
 
-pub returns : goal.returns
+pub returns : Rattle.pac_source.proofs.codes.bytes_of.Goals.returns
 unfolding told_bytes
 returns c = rw (c.to_le_bytes.ensures, c.to_le_bytes-2.ensures, c.to_le_bytes-3.ensures, c.to_le_bytes-4.ensures) refl

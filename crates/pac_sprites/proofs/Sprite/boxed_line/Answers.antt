@@ -1,6 +1,4 @@
-use Rattle.std.proofs.Common.{◌<◌, ℕ, length, rules, arith}
-use Rattle.pac_num.proofs.Pixels.{pixel_value-below}
-use Rattle.pac_lemmas.proofs.Lists.{set-one-more}
+use Rattle.pac_sprites.proofs.Common.{arith, length, pixel_value-below, rules, set-one-more, ℕ, ◌<◌}
 use Rattle.pac_sprites.proofs.Sprite.boxed_line.Goals as goal
 
 pub loop-across-preserved : goal.loop-across-preserved

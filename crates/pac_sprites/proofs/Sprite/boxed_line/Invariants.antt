@@ -1,8 +1,6 @@
-use Rattle.std.proofs.Common.{◌≡◌, ◌<◌, ℕ, length, slice_index}
-use Rattle.pac_sprites.specs.SpritesProofs.{boxed_of}
-use Rattle.pac_sprites.proofs.Sprite.boxed_line.Given as goal
+use Rattle.pac_sprites.proofs.Common.{boxed_of, length, slice_index, ℕ, ◌<◌, ◌≡◌}
 
-abbrev pub invariant-loop-across : goal.invariant-loop-across
+abbrev pub invariant-loop-across : Rattle.pac_sprites.proofs.Sprite.boxed_line.Given.invariant-loop-across
 invariant-loop-across l = record {
   long : length l.values ≡ 16;
   filled : (k : ℕ) → k < l.across → slice_index l.values k ≡ boxed_of l.rom l.self k l.down;

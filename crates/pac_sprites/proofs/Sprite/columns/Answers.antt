@@ -1,5 +1,4 @@
-use Rattle.std.proofs.Common.{arith}
-use Rattle.std.proofs.lemmas.Int.{ints}
+use Rattle.pac_sprites.proofs.Common.{arith, ints}
 use Rattle.pac_sprites.proofs.Boxes.{columns-between, columns-ordered}
 use Rattle.pac_sprites.proofs.Sprite.columns.Goals as goal
 

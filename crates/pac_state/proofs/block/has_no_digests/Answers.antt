@@ -1,10 +1,6 @@
-use Rattle.std.proofs.Common.{◌≡◌, sym, ◌∙◌, rules}
-use Rattle.std.proofs.lemmas.Slice.Eq.{bytes_eq-Decides}
-use Rattle.pac_state.specs.Block.{no_digest}
-use Rattle.pac_state.specs.Reading.{bytes_at_place}
-use Rattle.pac_state.proofs.block.has_no_digests.Goals as goal
+use Rattle.pac_state.proofs.Common.{bytes_at_place, bytes_eq-Decides, no_digest, rules, sym, ◌∙◌, ◌≡◌}
 
-pub returns-then-eq : goal.returns-then-eq
+pub returns-then-eq : Rattle.pac_state.proofs.block.has_no_digests.Goals.returns-then-eq
 returns-then-eq c =
     let first = bytes_eq-Decides no_digest c.part.result.now in
     let second = bytes_eq-Decides no_digest c.part-then-eq.result.now in

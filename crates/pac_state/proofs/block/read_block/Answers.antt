@@ -1,5 +1,4 @@
-use Rattle.std.proofs.Common.{◌≡◌, true, false, sym, ◌∙◌, arith}
-use Rattle.pac_state.specs.Block.{IsBlock}
+use Rattle.pac_state.proofs.Common.{IsBlock, arith, false, sym, true, ◌∙◌, ◌≡◌}
 use Rattle.pac_state.proofs.Framing.{framed-of, reads-block}
 use Rattle.pac_state.proofs.block.read_block.Goals as goal
 

@@ -1,9 +1,5 @@
-use Rattle.std.proofs.Common.{◌≡◌, ◌++◌, List, ℕ, length, take, refl, ap, ◌∙◌, arith, rules}
-use Rattle.std.proofs.lemmas.List.{take_all}
-use Rattle.pac_out.specs.Pieces.{joined_pieces}
-use Rattle.pac_board.specs.Fields.{state_of}
-use Rattle.pac_state.specs.Text.{body, written_version}
-use Rattle.pac_state.specs.Block.{no_digest, block_text}
+use Rattle.pac_state.proofs.Common.{List, ap, arith, block_text, body, joined_pieces, length, no_digest, refl, rules, state_of, take}
+use Rattle.pac_state.proofs.Common.{take_all, written_version, ℕ, ◌++◌, ◌∙◌, ◌≡◌}
 use Rattle.pac_state.proofs.Written.{length-front, length-lines}
 use Rattle.pac_state.proofs.block.write_block.Goals as goal
 

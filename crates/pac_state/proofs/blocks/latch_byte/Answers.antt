@@ -1,6 +1,4 @@
-use Rattle.std.proofs.Common.{sym, arith}
-use Rattle.pac_board.proofs.LatchBytes.{byte_of-bits_of}
-use Rattle.pac_state.proofs.blocks.latch_byte.Goals as goal
+use Rattle.pac_state.proofs.Common.{arith, byte_of-bits_of, sym}
 
-pub returns : goal.returns
+pub returns : Rattle.pac_state.proofs.blocks.latch_byte.Goals.returns
 returns c = sym (byte_of-bits_of c.args.latch (omega (arith, c.ranges.latch)))

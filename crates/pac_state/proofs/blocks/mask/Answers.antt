@@ -1,4 +1,2 @@
-use Rattle.pac_state.proofs.blocks.mask.Goals as goal
-
-pub returns : goal.returns
+pub returns : Rattle.pac_state.proofs.blocks.mask.Goals.returns
 returns c = c.bits.ensures tt

@@ -1,5 +1,4 @@
-use Rattle.std.proofs.Common.{length, ap, ◌∙◌, arith}
-use Rattle.pac_board.specs.Fields.{state_of}
+use Rattle.pac_state.proofs.Common.{ap, arith, length, state_of, ◌∙◌}
 use Rattle.pac_state.proofs.Written.{devices-are, length-devices}
 use Rattle.pac_state.proofs.front.devices.Goals as goal
 

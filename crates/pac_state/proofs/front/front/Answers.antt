@@ -1,6 +1,4 @@
-use Rattle.std.proofs.Common.{length, ap, ◌∙◌, arith}
-use Rattle.pac_board.specs.Fields.{state_of}
-use Rattle.pac_state.specs.Text.{written_version}
+use Rattle.pac_state.proofs.Common.{ap, arith, length, state_of, written_version, ◌∙◌}
 use Rattle.pac_state.proofs.Written.{front-is, length-front}
 use Rattle.pac_state.proofs.front.front.Goals as goal
 

@@ -1,8 +1,5 @@
 -- The first fault, test by test.
-use Rattle.std.proofs.Common.{◌≡◌, ◌≢◌, ◌⊎◌, ℕ, true, false, refl, sym, arith, rules}
-use Rattle.std.proofs.Math.Dec.{eqb}
-use Rattle.std.proofs.lemmas.Bool.Decides.{eqb_tells}
-use Rattle.pac_state.specs.Saved.{load_fault}
+use Rattle.pac_state.proofs.Common.{arith, eqb, eqb_tells, false, load_fault, refl, rules, sym, true, ℕ, ◌≡◌, ◌≢◌, ◌⊎◌}
 use Rattle.pac_state.proofs.header.fault_of.Goals as goal
 
 differs : (a b : ℕ) → ((eqb a b ≡ true) × (a ≡ b)) ⊎ ((eqb a b ≡ false) × (a ≢ b)) → a ≢ b → eqb a b ≡ false

@@ -1,7 +1,4 @@
-use Rattle.std.proofs.Common.{subst}
-use Rattle.pac_board.specs.State.{BoardState}
-use Rattle.pac_state.specs.Files.{IsState}
-use Rattle.pac_state.proofs.laws.boards_have_states.Goals as goal
+use Rattle.pac_state.proofs.Common.{BoardState, IsState, subst}
 
-pub returns : goal.returns
+pub returns : Rattle.pac_state.proofs.laws.boards_have_states.Goals.returns
 returns c = subst (λ (state : BoardState). IsState state) c.fields.ensures.fields c.in_range.ensures

@@ -1,15 +1,5 @@
-use Rattle.std.proofs.Common.{arith, ◌≡◌, List, ℕ, refl, ◌∙◌, Result, Ok, Err}
-use Rattle.std.proofs.lemmas.Grind.{common_steps}
-use Rattle.pac_board.specs.RomParts.{Parts}
-use Rattle.pac_board.specs.Boxed.{unboxed}
-use Rattle.pac_board.specs.State.{BoardValue}
-use Rattle.pac_state.specs.declared.fault.LoadRefused.{LoadRefused}
-use Rattle.pac_state.specs.Text.{written_version}
-use Rattle.pac_state.specs.SavedProofs.{LoadsBoard}
-use Rattle.pac_state.specs.Files.{IsFile}
-use Rattle.pac_state.specs.FilesProofs.{Accepts}
-use Rattle.pac_state.specs.FilesLaws.{LoadsAgain}
-use Rattle.pac_state.proofs.laws.loaded_again.Goals as goal
+use Rattle.pac_state.proofs.Common.{Accepts, BoardValue, Err, IsFile, List, LoadRefused, LoadsAgain, LoadsBoard, Ok, Parts, Result, arith}
+use Rattle.pac_state.proofs.Common.{common_steps, refl, unboxed, written_version, ℕ, ◌∙◌, ◌≡◌}
 
 loads : (set : Parts) (bytes : List ℕ) (old : BoardValue) (file : IsFile set bytes) → file.version ≡ written_version
     → file.state ≡ old.state → (result : Result BoardValue LoadRefused)
@@ -17,7 +7,7 @@ loads : (set : Parts) (bytes : List ℕ) (old : BoardValue) (file : IsFile set b
 loads set bytes old file version state (Ok board) answers accepts = accepts.board file ∙ rw (version, state) refl
 loads set bytes old file version state (Err refused) answers accepts = record { same_set = answers.same_set; fault = accepts file }
 
-pub returns : goal.returns
+pub returns : Rattle.pac_state.proofs.laws.loaded_again.Goals.returns
 returns c =
     let board = c.args.board.now in
     let file : IsFile c.args.set c.args.bytes.now = record {

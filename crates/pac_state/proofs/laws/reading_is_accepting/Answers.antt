@@ -1,8 +1,7 @@
 use Rattle.std.proofs.Common.{Ok, Err}
 use Rattle.pac_state.proofs.Files.{accepts, reads}
-use Rattle.pac_state.proofs.laws.reading_is_accepting.Goals as goal
 
-pub returns : goal.returns
+pub returns : Rattle.pac_state.proofs.laws.reading_is_accepting.Goals.returns
 returns c set bytes fits =
     record {
       accepted = λ board. accepts set bytes fits (Ok board);

@@ -1,13 +1,8 @@
-use Rattle.std.proofs.Common.{◌≡◌, ◌<◌, ℕ, List, get_or, sym, ap, subst, ◌∙◌}
-use Rattle.pac_board.specs.State.{BoardValue}
-use Rattle.pac_state.specs.Reading.{state_in}
-use Rattle.pac_state.specs.Saved.{version_in, upgraded_board}
-use Rattle.pac_state.specs.Saves.{Saves}
-use Rattle.pac_state.specs.Text.{save_text}
+use Rattle.pac_state.proofs.Common.{BoardValue, List, Saves, ap, get_or, save_text, state_in, subst, sym, upgraded_board, version_in, ℕ}
+use Rattle.pac_state.proofs.Common.{◌<◌, ◌∙◌, ◌≡◌}
 use Rattle.pac_state.proofs.Whole.{text-of}
-use Rattle.pac_state.proofs.laws.saved_again.Goals as goal
 
-pub returns-in-Ok : goal.returns-in-Ok
+pub returns-in-Ok : Rattle.pac_state.proofs.laws.saved_again.Goals.returns-in-Ok
 returns-in-Ok g c =
     let fits : (i : ℕ) → get_or c.args.bytes.now i 0 < 256 = λ i. (c.type_inv.bytes i).fits in
     let version : version_in c.args.bytes.now ≡ 2 = c.requires in

@@ -1,5 +1,4 @@
 use Rattle.pac_state.proofs.Again.{state-again}
-use Rattle.pac_state.proofs.laws.states_are_read_back.Goals as goal
 
-pub returns : goal.returns
+pub returns : Rattle.pac_state.proofs.laws.states_are_read_back.Goals.returns
 returns c = state-again

@@ -1,5 +1,4 @@
 use Rattle.pac_state.proofs.Framing.{is-block}
-use Rattle.pac_state.proofs.laws.states_have_blocks.Goals as goal
 
-pub returns : goal.returns
+pub returns : Rattle.pac_state.proofs.laws.states_have_blocks.Goals.returns
 returns c = is-block

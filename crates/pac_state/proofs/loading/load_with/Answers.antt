@@ -1,11 +1,6 @@
 -- The board of a file, made in a block of memory.
-use Rattle.std.proofs.Common.{Ok, Err, inr, refl, sym, ap, ◌∙◌, rules}
-use Rattle.std.proofs.lemmas.Result.{err_from_is_err_and}
-use Rattle.pac_board.specs.Fields.{state_of}
-use Rattle.pac_board.specs.State.{BoardState}
-use Rattle.pac_board.specs.StateLaws.{restored_board}
-use Rattle.pac_roms_manifest.specs.Sets.{digest_of}
-use Rattle.pac_state.specs.Saved.{upgraded_board, version_in}
+use Rattle.pac_state.proofs.Common.{BoardState, Err, Ok, ap, digest_of, err_from_is_err_and, inr, refl, restored_board, rules, state_of}
+use Rattle.pac_state.proofs.Common.{sym, upgraded_board, version_in, ◌∙◌}
 use Rattle.pac_state.proofs.Files.{accepts}
 use Rattle.pac_state.proofs.Taken.{size-of}
 use Rattle.pac_state.proofs.loading.load_with.Goals as goal

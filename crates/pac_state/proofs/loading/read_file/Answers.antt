@@ -1,8 +1,5 @@
 -- The fields of a file in which nothing is wrong, or the first thing that is.
-use Rattle.std.proofs.Common.{◌≡◌, sym, ap, ◌∙◌, arith, rules}
-use Rattle.pac_board.specs.RomParts.{Parts}
-use Rattle.pac_roms_manifest.specs.Sets.{digest_of}
-use Rattle.pac_state.specs.Saved.{load_fault}
+use Rattle.pac_state.proofs.Common.{Parts, ap, arith, digest_of, load_fault, rules, sym, ◌∙◌, ◌≡◌}
 use Rattle.pac_state.proofs.Files.{fault-of-file}
 use Rattle.pac_state.proofs.Taken.{size-of}
 use Rattle.pac_state.proofs.loading.read_file.Goals as goal

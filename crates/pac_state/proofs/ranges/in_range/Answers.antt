@@ -1,9 +1,7 @@
-use Rattle.std.proofs.Common.{refl, arith}
-use Rattle.pac_board.specs.Fields.{state_of}
+use Rattle.pac_state.proofs.Common.{arith, refl, state_of}
 use Rattle.pac_state.proofs.Taken.{in-range}
-use Rattle.pac_state.proofs.ranges.in_range.Goals as goal
 
-pub returns : goal.returns
+pub returns : Rattle.pac_state.proofs.ranges.in_range.Goals.returns
 returns c = record {
   words = c.words.ensures;
   memory = record {

@@ -1,9 +1,7 @@
-use Rattle.std.proofs.Common.{◌<◌, length, subst, ◌∙◌, take_all, arith}
-use Rattle.std.specs.Array.{IsFirstChunk}
-use Rattle.std.specs.Option.{MatchOption}
-use Rattle.pac_state.proofs.reading.all_lines.Goals as goal
+use Rattle.pac_state.proofs.Common.{IsFirstChunk, MatchOption, arith, length, subst, ◌<◌, ◌∙◌}
+use Rattle.std.proofs.Common.{take_all}
 
-pub returns : goal.returns
+pub returns : Rattle.pac_state.proofs.reading.all_lines.Goals.returns
 returns c =
     let first : IsFirstChunk c.args.lines.now c.unwrap.result.now 224 =
     subst (λ chunk. MatchOption chunk (length c.args.lines.now < 224) (λ lines. IsFirstChunk c.args.lines.now lines.now 224))

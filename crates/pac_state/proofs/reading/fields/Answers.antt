@@ -1,9 +1,7 @@
-use Rattle.std.proofs.Common.{ap, ◌∙◌}
-use Rattle.pac_state.specs.Reading.{regs_of, due_of, lines_of}
+use Rattle.pac_state.proofs.Common.{ap, due_of, lines_of, regs_of, ◌∙◌}
 use Rattle.pac_state.proofs.Read.{same-state}
-use Rattle.pac_state.proofs.reading.fields.Goals as goal
 
-pub returns : goal.returns
+pub returns : Rattle.pac_state.proofs.reading.fields.Goals.returns
 returns c =
     same-state (c.regs.ensures ∙ ap regs_of c.part.ensures) c.memory.ensures c.double_word.ensures
     c.double_word-2.ensures c.double_word-3.ensures

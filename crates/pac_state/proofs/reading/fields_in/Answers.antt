@@ -1,8 +1,4 @@
-use Rattle.std.proofs.Common.{◌≡◌, true, false, sym, subst, ◌∙◌}
-use Rattle.pac_board.specs.Fields.{state_of}
-use Rattle.pac_board.specs.State.{BoardState}
-use Rattle.pac_state.specs.Reading.{state_in}
-use Rattle.pac_state.specs.Saved.{AreWritten, IsText}
+use Rattle.pac_state.proofs.Common.{AreWritten, BoardState, IsText, false, state_in, state_of, subst, sym, true, ◌∙◌, ◌≡◌}
 use Rattle.pac_state.proofs.Taken.{in-range, range-of}
 use Rattle.pac_state.proofs.reading.fields_in.Goals as goal
 

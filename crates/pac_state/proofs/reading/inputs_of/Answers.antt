@@ -1,4 +1,2 @@
-use Rattle.pac_state.proofs.reading.inputs_of.Goals as goal
-
-pub returns : goal.returns
+pub returns : Rattle.pac_state.proofs.reading.inputs_of.Goals.returns
 returns c = c.from_bits_retain.ensures tt

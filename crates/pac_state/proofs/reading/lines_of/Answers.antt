@@ -1,5 +1,4 @@
-use Rattle.std.proofs.Common.{◌≡◌, ◌/◌, ℕ, length, ap, ◌∙◌, arith}
-use Rattle.std.specs.Simd.{first_chunks}
+use Rattle.pac_state.proofs.Common.{ap, arith, first_chunks, length, ℕ, ◌/◌, ◌∙◌, ◌≡◌}
 use Rattle.pac_state.proofs.Chunks.{chunks-are}
 use Rattle.pac_state.proofs.reading.lines_of.Goals as goal
 

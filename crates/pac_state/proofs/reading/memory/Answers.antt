@@ -1,7 +1,6 @@
 use Rattle.std.proofs.Common.{refl}
-use Rattle.pac_state.proofs.reading.memory.Goals as goal
 
-pub returns : goal.returns
+pub returns : Rattle.pac_state.proofs.reading.memory.Goals.returns
 returns c =
     rw (
       c.inputs_of.ensures,

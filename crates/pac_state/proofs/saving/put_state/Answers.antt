@@ -1,12 +1,6 @@
-use Rattle.std.proofs.Common.{◌≡◌, List, ℕ, [], ◌++◌, subst, sym, ap, ◌∙◌, append_assoc}
-use Rattle.std.proofs.lemmas.Result.{err_from_is_err_and}
-use Rattle.sha1.specs.Sha1.{Holds, sha1}
-use Rattle.pac_out.specs.CountedLaws.{Refuses}
-use Rattle.pac_out.specs.CountedProofs.{Puts}
-use Rattle.pac_out.proofs.Files.{refuses-after, refuses-within, takes-joined, puts-after}
-use Rattle.pac_board.specs.Fields.{state_of}
-use Rattle.pac_out.specs.Pieces.{joined_pieces}
-use Rattle.pac_state.specs.Text.{file_front, body, written_version}
+use Rattle.pac_state.proofs.Common.{Holds, List, Puts, Refuses, [], ap, append_assoc, body, err_from_is_err_and, file_front, joined_pieces}
+use Rattle.pac_state.proofs.Common.{puts-after, refuses-after, refuses-within, sha1, state_of, subst, sym, takes-joined, written_version, ℕ}
+use Rattle.pac_state.proofs.Common.{◌++◌, ◌∙◌, ◌≡◌}
 use Rattle.pac_state.proofs.saving.put_state.Goals as goal
 
 pub returns-in_err-put : goal.returns-in_err-put

@@ -1,11 +1,6 @@
-use Rattle.std.proofs.Common.{arith, ◌≡◌, ap, ◌∙◌}
-use Rattle.std.proofs.lemmas.Grind.{common_steps}
-use Rattle.pac_board.specs.Fields.{state_of}
-use Rattle.pac_roms_manifest.specs.Sets.{digest_of}
-use Rattle.pac_state.specs.Text.{sealed_file, body, written_version, save_text}
-use Rattle.pac_state.proofs.saving.save.Goals as goal
+use Rattle.pac_state.proofs.Common.{ap, arith, body, common_steps, digest_of, save_text, sealed_file, state_of, written_version, ◌∙◌, ◌≡◌}
 
-pub returns : goal.returns
+pub returns : Rattle.pac_state.proofs.saving.save.Goals.returns
 returns g c =
     let text : sealed_file (body written_version c.digest.result (state_of c.fields.result))
     ≡ save_text written_version c.args.board.now.set c.args.board.now.state =

@@ -1,9 +1,7 @@
-use Rattle.pac_board.specs.Fields.{state_of}
-use Rattle.pac_state.specs.Text.{sealed_file, body, written_version}
+use Rattle.pac_state.proofs.Common.{body, sealed_file, state_of, written_version}
 use Rattle.pac_state.proofs.Sealing.{saves}
-use Rattle.pac_state.proofs.saving.save_fields.Goals as goal
 
-pub returns : goal.returns
+pub returns : Rattle.pac_state.proofs.saving.save_fields.Goals.returns
 returns g c =
     saves g.W.Out.took g.W.Out.refused c.new-file.ensures
     (sealed_file (body written_version c.args.digest.now (state_of c.args.fields.now))) c.put_state-written.result

@@ -1,7 +1,5 @@
-use Rattle.std.proofs.Common.{ℕ, ◌<◌, List, length, get_or, slice_range, sym, ◌∙◌, ap, subst, arith}
-use Rattle.pac_table.specs.Instructions.{row_count}
-use Rattle.pac_table_names.specs.ByName.{AreNamed}
-use Rattle.pac_table_names.specs.WordsProofs.{row_list}
+use Rattle.pac_table_names.proofs.Common.{AreNamed, List, ap, arith, get_or, length, row_count, row_list, slice_range, subst, sym, ℕ, ◌<◌}
+use Rattle.pac_table_names.proofs.Common.{◌∙◌}
 use Rattle.pac_table_names.proofs.Index.{rows-none, family-none, found-rows, all-below}
 use Rattle.pac_table_names.proofs.by_name.rows_named.Goals as goal
 

@@ -1,7 +1,4 @@
-use Rattle.std.proofs.Common.{◌∙◌, sym, ap, List, find}
-use Rattle.std.specs.Option.{option_copied}
-use Rattle.pac_table_names.specs.declared.by_name.Word.{Word}
-use Rattle.pac_table_names.specs.WordsProofs.{is_text}
+use Rattle.pac_table_names.proofs.Common.{List, Word, ap, find, is_text, option_copied, sym, ◌∙◌}
 use Rattle.pac_table_names.proofs.Index.{first-none, first-some}
 use Rattle.pac_table_names.proofs.Longer.{no-word}
 use Rattle.pac_table_names.proofs.by_name.word_of.Goals as goal

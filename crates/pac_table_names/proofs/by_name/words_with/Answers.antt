@@ -1,7 +1,5 @@
-use Rattle.std.proofs.Common.{ℕ, ◌<◌, ◌-◌, ◌+◌, List, length, get_or, slice_range, sym, ◌∙◌, ap, arith}
-use Rattle.std.specs.Char.{is_ascii_uppercase}
-use Rattle.pac_table_names.specs.declared.by_name.Word.{Word}
-use Rattle.pac_table_names.specs.WordsProofs.{letter_list}
+use Rattle.pac_table_names.proofs.Common.{List, Word, ap, arith, get_or, is_ascii_uppercase, length, letter_list, slice_range, sym, ℕ, ◌+◌}
+use Rattle.pac_table_names.proofs.Common.{◌-◌, ◌<◌, ◌∙◌}
 use Rattle.pac_table_names.proofs.Index.{no-letter, at-letter, letter-bounds, letter-count}
 use Rattle.pac_table_names.proofs.by_name.words_with.Goals as goal
 

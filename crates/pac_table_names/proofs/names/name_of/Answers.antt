@@ -1,6 +1,4 @@
-use Rattle.std.proofs.Common.{◌∙◌, sym, ap, List, find}
-use Rattle.pac_table.specs.declared.operands.Name.{Name}
-use Rattle.pac_table_names.specs.Names.{is_written, text_of_name}
+use Rattle.pac_table_names.proofs.Common.{List, Name, ap, find, is_written, sym, text_of_name, ◌∙◌}
 use Rattle.pac_table_names.proofs.Letters.{no-letter, with-letter}
 use Rattle.pac_table_names.proofs.Longer.{no-name}
 use Rattle.pac_table_names.proofs.names.name_of.Goals as goal

@@ -1,9 +1,8 @@
 use Rattle.std.proofs.Common.{rules}
 use Rattle.std.proofs.lemmas.Bool.{and_parts}
 use Rattle.pac_wave.proofs.Registers.{same-eights, eight-same}
-use Rattle.pac_wave.proofs.settings.are_same.Goals as goal
 
-pub returns : goal.returns
+pub returns : Rattle.pac_wave.proofs.settings.are_same.Goals.returns
 returns c = λ same.
     let last = and_parts _ _ same in
     let third = and_parts _ _ last.0 in

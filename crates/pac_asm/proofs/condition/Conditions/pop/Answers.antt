@@ -1,6 +1,4 @@
-use Rattle.std.proofs.Common.{arith}
-use Rattle.std.proofs.lemmas.List.{length-reverse, length-take}
-use Rattle.pac_asm.proofs.condition.Conditions.pop.Goals as goal
+use Rattle.pac_asm.proofs.Common.{arith, length-reverse, length-take}
 
-pub returns-clause-room : goal.returns-clause-room
+pub returns-clause-room : Rattle.pac_asm.proofs.condition.Conditions.pop.Goals.returns-clause-room
 returns-clause-room c = grind (arith, length-reverse, length-take)

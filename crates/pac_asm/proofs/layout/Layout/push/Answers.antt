@@ -1,7 +1,4 @@
-use Rattle.std.proofs.Common.{◌≡◌, List, [], ◌∷◌, ◌++◌, Bool, arith}
-use Rattle.pac_asm_program.specs.Programs.{rom_size}
-use Rattle.pac_asm.specs.declared.place.LineLayout.{LineLayout}
-use Rattle.pac_asm.specs.Layouts.{IsLaidOut, IsFreePlace, cells_below}
+use Rattle.pac_asm.proofs.Common.{Bool, IsFreePlace, IsLaidOut, LineLayout, List, [], arith, cells_below, rom_size, ◌++◌, ◌∷◌, ◌≡◌}
 use Rattle.pac_asm.proofs.Coverage.{with_span, with_nothing, length-cells, apart-push}
 use Rattle.pac_asm.proofs.layout.Layout.push.Goals as goal
 

@@ -1,5 +1,4 @@
-use Rattle.std.proofs.Common.{sym, ◌∙◌}
-use Rattle.pac_asm_line.specs.Views.{parts_of_operands, trees_of}
+use Rattle.pac_asm_line.proofs.Common.{parts_of_operands, sym, trees_of, ◌∙◌}
 use Rattle.pac_asm_line.proofs.Sizes.{parts-length, sized-as, words-length}
 use Rattle.pac_asm_line.proofs.statement.Statement.content.Goals as goal
 

@@ -1,6 +1,5 @@
 use Rattle.std.proofs.Common.{arith}
 use Rattle.pac_asm_operation.proofs.Found.{read-fit}
-use Rattle.pac_asm_operation.proofs.operation.Operation.read.Goals as goal
 
-pub returns : goal.returns
+pub returns : Rattle.pac_asm_operation.proofs.operation.Operation.read.Goals.returns
 returns c = let named = c.rows_named-named.ensures in grind (arith, read-fit)

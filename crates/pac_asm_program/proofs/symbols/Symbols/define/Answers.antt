@@ -1,10 +1,5 @@
-use Rattle.std.proofs.Common.{◌≡◌, ℕ, ◌∙◌, sym, ap, subst, is_some, is_none, None, List}
-use Rattle.indexmap.proofs.CallerLemmas.{insert_entry-new}
-use Rattle.std.proofs.Common.{w32}
-use Rattle.std.proofs.lemmas.Int.{to_z-of_z}
-use Rattle.std.specs.Prelude.{bytes_eq}
-use Rattle.std.specs.Map.{lookup}
-use Rattle.pac_lemmas.proofs.Options.{is_none-where-some, none-from-is_some}
+use Rattle.pac_asm_program.proofs.Common.{List, None, ap, bytes_eq, insert_entry-new, is_none, is_none-where-some, is_some, lookup}
+use Rattle.pac_asm_program.proofs.Common.{none-from-is_some, subst, sym, to_z-of_z, w32, ℕ, ◌∙◌, ◌≡◌}
 use Rattle.pac_asm_program.proofs.Seen.{seen, lookup-seen, with-old, seen-new}
 use Rattle.pac_asm_program.proofs.symbols.Symbols.define.Goals as goal
 

@@ -1,10 +1,6 @@
-use Rattle.std.proofs.Common.{◌<◌, refl, arith}
-use Rattle.pac_num.proofs.Tabulated.{tabulate-same}
-use Rattle.pac_board.specs.PictureState.{palette_of}
-use Rattle.pac_block.specs.Woven.{coloured}
-use Rattle.pac_block.proofs.pixels.Channels.of.Goals as goal
+use Rattle.pac_block.proofs.Common.{arith, coloured, palette_of, refl, tabulate-same, ◌<◌}
 
-pub returns : goal.returns
+pub returns : Rattle.pac_block.proofs.pixels.Channels.of.Goals.returns
 unfolding palette_of coloured
 returns c =
     let kept = c.loop-number.invariant in

@@ -1,8 +1,6 @@
-use Rattle.std.proofs.Common.{◌≡◌, ◌<◌, ℕ, length, get_or, slice_index}
-use Rattle.pac_colour.specs.Colours.{rgb_of}
-use Rattle.pac_block.proofs.pixels.Channels.of.Given as goal
+use Rattle.pac_block.proofs.Common.{get_or, length, rgb_of, slice_index, ℕ, ◌<◌, ◌≡◌}
 
-abbrev pub invariant-loop-number : goal.invariant-loop-number
+abbrev pub invariant-loop-number : Rattle.pac_block.proofs.pixels.Channels.of.Given.invariant-loop-number
 invariant-loop-number l = record {
   red_long : length l.reds ≡ 16;
   green_long : length l.greens ≡ 16;

@@ -1,13 +1,8 @@
-use Rattle.std.proofs.Common.{◌≡◌, ◌∙◌, get_or, pos, arith, rules}
-use Rattle.std.proofs.lemmas.Int.{to_z-of_z}
-use Rattle.std.proofs.lemmas.List.{get_or_default}
+use Rattle.pac_block.proofs.Common.{arith, get_or, get_or_default, pos, rules, sounding_took, to_z-of_z, took-more, ◌∙◌, ◌≡◌}
 use mir.Syntax.{w16}
 use mir.Val.{to_z, of_z}
-use Rattle.pac_board.proofs.Sinks.{took-more}
-use Rattle.pac_block.specs.Sounding.{sounding_took}
-use Rattle.pac_block.proofs.sounds.Sounds.keep_each.Goals as goal
 
-pub loop-sample-preserved : goal.loop-sample-preserved
+pub loop-sample-preserved : Rattle.pac_block.proofs.sounds.Sounds.keep_each.Goals.loop-sample-preserved
 loop-sample-preserved c =
     let samples = c.args.samples.now in
     let i = c.loop-sample.sample-index in

@@ -1,8 +1,5 @@
 -- The kind of a step was found before it.
-use Rattle.std.proofs.Common.{◌-◌, ℕ, ap, ◌∙◌, arith, rules}
-use Rattle.pac_machine.specs.BurstsProofs.{IsNextKind}
-use Rattle.pac_board.specs.Calls.{next_of}
-use Rattle.pac_board.specs.TurnsProofs.{told_once}
+use Rattle.pac_board.proofs.Common.{IsNextKind, ap, arith, next_of, rules, told_once, ℕ, ◌-◌, ◌∙◌}
 use Rattle.pac_board.proofs.Singles.{is-told, step-short}
 use Rattle.pac_board.proofs.board.Board.advance.Goals as goal
 

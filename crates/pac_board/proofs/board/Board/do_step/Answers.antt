@@ -1,8 +1,7 @@
 -- A single step is the first of a stretch.
 use Rattle.pac_board.proofs.Singles.{step-alone}
-use Rattle.pac_board.proofs.board.Board.do_step.Goals as goal
 
-pub returns : goal.returns
+pub returns : Rattle.pac_board.proofs.board.Board.do_step.Goals.returns
 returns c =
     let old = c.args.self.now in
     let made = c.go_on.ensures.made in

@@ -1,8 +1,5 @@
 -- The time that went by, and a refusal.
-use Rattle.std.proofs.Common.{◌≡◌, ◌+◌, ◌≤◌, ap, arith, rules}
-use Rattle.pac_board.specs.SinksLaws.{by}
-use Rattle.pac_board.specs.Sinks.{TookAll}
-use Rattle.pac_board.specs.State.{BoardValue, due_outputs, most_asked, time_of}
+use Rattle.pac_board.proofs.Common.{BoardValue, TookAll, ap, arith, by, due_outputs, most_asked, rules, time_of, ◌+◌, ◌≡◌, ◌≤◌}
 use Rattle.pac_board.proofs.Turns.{more_asked, run-later, run-refused}
 use Rattle.pac_board.proofs.board.Board.exec.Goals as goal
 

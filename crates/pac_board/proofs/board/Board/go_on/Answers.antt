@@ -1,15 +1,7 @@
 -- A batch of the machine's that is one step is a stretch of the board's, which counts it.
-use Rattle.std.proofs.Common.{◌≡◌, ◌+◌, ◌-◌, ◌≤◌, ℕ, ℤ, suc, List, Option, refl, ap, subst, arith}
-use Rattle.pac_board_model.specs.BoardView.{BoardView}
-use Rattle.pac_board_model.specs.Step.{Moment, step}
-use Rattle.pac_board_model.specs.Trace.{by_view}
-use Rattle.pac_board_model.proofs.Walks.{step-timely}
-use Rattle.pac_cpu.specs.declared.once.Stop.{Stop}
-use Rattle.pac_machine.specs.BurstsProofs.{MakesBatch, batch_at}
-use Rattle.pac_machine.specs.StandingProofs.{BoardStanding}
-use Rattle.pac_machine.specs.declared.due.Due.{Due}
-use Rattle.pac_board.specs.State.{BoardValue, steps_counted}
-use Rattle.pac_board.specs.Stretches.{HasBatch, IsStretched}
+use Rattle.pac_board.proofs.Common.{BoardStanding, BoardValue, BoardView, Due, HasBatch, IsStretched, List, MakesBatch, Moment, Option}
+use Rattle.pac_board.proofs.Common.{Stop, ap, arith, batch_at, by_view, refl, step, step-timely, steps_counted, subst, suc, ℕ, ℤ, ◌+◌, ◌-◌}
+use Rattle.pac_board.proofs.Common.{◌≡◌, ◌≤◌}
 use Rattle.pac_board.proofs.Stretches.{single-goes}
 use Rattle.pac_board.proofs.Walked.{walked-after}
 use Rattle.pac_board.proofs.board.Board.go_on.Goals as goal

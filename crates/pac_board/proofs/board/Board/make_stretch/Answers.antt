@@ -1,12 +1,8 @@
 -- A stretch of the machine is one of the board.
-use Rattle.std.proofs.Common.{rules}
-use Rattle.pac_board_model.specs.Step.{step}
-use Rattle.pac_board_model.specs.Trace.{by_view}
-use Rattle.pac_machine.specs.Trails.{IsNoted}
+use Rattle.pac_board.proofs.Common.{IsNoted, by_view, rules, step}
 use Rattle.pac_board.proofs.Told.{board-noted}
-use Rattle.pac_board.proofs.board.Board.make_stretch.Goals as goal
 
-pub returns-clause-told : goal.returns-clause-told
+pub returns-clause-told : Rattle.pac_board.proofs.board.Board.make_stretch.Goals.returns-clause-told
 returns-clause-told g c =
     let old = c.self.inside.machine in
     let told : IsNoted (step (by_view old.set)) c.args.limit old.now c.stretch.new.self.now c.args.told.now c.stretch.new.told =

@@ -1,13 +1,6 @@
 -- Each stretch goes along the walk, and tells its steps.
-use Rattle.std.proofs.Common.{◌+◌, Option, sym, ap, subst, ◌∙◌, arith, rules}
-use Rattle.std.proofs.lemmas.Result.{err_from_is_err_and}
-use Rattle.pac_board_model.specs.Step.{step}
-use Rattle.pac_board_model.specs.Trace.{by_view}
-use Rattle.pac_machine.proofs.Passing.{passes-fewer, passes-on}
-use Rattle.pac_machine.specs.declared.watch.Access.{Access}
-use Rattle.pac_machine.proofs.Watched.{none-met}
-use Rattle.pac_board.specs.RoadsProofs.{BoardWatched}
-use Rattle.pac_board.specs.State.{BoardValue}
+use Rattle.pac_board.proofs.Common.{Access, BoardValue, BoardWatched, Option, ap, arith, by_view, err_from_is_err_and, none-met}
+use Rattle.pac_board.proofs.Common.{passes-fewer, passes-on, rules, step, subst, sym, ◌+◌, ◌∙◌}
 use Rattle.pac_board.proofs.Roads.{gone-to-limit, gone-to-stop, gone-to-access, passed-further}
 use Rattle.pac_board.proofs.Stretches.{stretch-goes-on, stretch-longer, stretch-refused, stretch-stops}
 use Rattle.pac_board.proofs.Turns.{time-is-over}

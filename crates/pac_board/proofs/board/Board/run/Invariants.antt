@@ -1,10 +1,5 @@
 -- The loop goes along its walk, and tells its steps, none of which but the first began where it was to stop; nor would the next one.
-use Rattle.std.proofs.Common.{◌≡◌, ◌+◌, ◌-◌, ◌≤◌, None}
-use Rattle.pac_board_model.specs.Step.{step}
-use Rattle.pac_board_model.specs.Trace.{by_view}
-use Rattle.pac_machine.specs.StopsProofs.{PassesBy}
-use Rattle.pac_board.specs.RoadsProofs.{BoardWatched}
-use Rattle.pac_board.specs.Stretches.{IsTold}
+use Rattle.pac_board.proofs.Common.{BoardWatched, IsTold, None, PassesBy, by_view, step, ◌+◌, ◌-◌, ◌≡◌, ◌≤◌}
 use Rattle.pac_board.proofs.Turns.{IsUnderway}
 use Rattle.pac_board.proofs.board.Board.run.Given as goal
 

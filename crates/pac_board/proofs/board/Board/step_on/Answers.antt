@@ -1,12 +1,8 @@
 -- What the step gave was refused in part.
-use Rattle.std.proofs.Common.{◌≡◌, rules, inr}
-use Rattle.pac_board.specs.Sinks.{TookAll}
-use Rattle.pac_board.specs.State.{due_outputs, nothing_due}
-use Rattle.pac_board.specs.Calls.{with_due}
+use Rattle.pac_board.proofs.Common.{TookAll, due_outputs, inr, nothing_due, rules, with_due, ◌≡◌}
 use Rattle.pac_board.proofs.Offered.{step-refused}
-use Rattle.pac_board.proofs.board.Board.step_on.Goals as goal
 
-pub returns-in-Err : goal.returns-in-Err
+pub returns-in-Err : Rattle.pac_board.proofs.board.Board.step_on.Goals.returns-in-Err
 returns-in-Err g c =
     let old = c.args.self.now in
     let same : c.offer.new.self ≡ with_due old nothing_due = search rules in

@@ -1,13 +1,6 @@
 -- A stretch, and the offer of what it gave.
-use Rattle.std.proofs.Common.{take, Option, refl, sym, ap, subst, ◌∙◌}
-use Rattle.std.proofs.lemmas.Result.{err_from_is_err_and}
-use Rattle.pac_cpu.specs.declared.once.Stop.{Stop}
-use Rattle.pac_board_model.specs.Step.{step}
-use Rattle.pac_board_model.specs.Trace.{by_view}
-use Rattle.pac_board.specs.Calls.{with_due}
-use Rattle.pac_board.specs.State.{BoardValue}
-use Rattle.pac_board.specs.Stretches.{HasBatch}
-use Rattle.pac_machine.proofs.Noted.{noted-at, noted-sooner}
+use Rattle.pac_board.proofs.Common.{BoardValue, HasBatch, Option, Stop, ap, by_view, err_from_is_err_and, noted-at, noted-sooner, refl}
+use Rattle.pac_board.proofs.Common.{step, subst, sym, take, with_due, ◌∙◌}
 use Rattle.pac_board.proofs.Stretches.{no-stop, stretch-left, stretch-taken}
 use Rattle.pac_board.proofs.board.Board.stretch.Goals as goal
 

@@ -1,8 +1,5 @@
 -- From frame to frame, to the end of the run.
-use Rattle.std.proofs.Common.{◌≡◌, ◌<◌, ◌≤◌, true, is_some, rules}
-use Rattle.std.proofs.lemmas.Result.{err_from_is_err_and}
-use Rattle.pac_board.specs.SinksLaws.{by}
-use Rattle.pac_board_course.specs.Course.{end_of}
+use Rattle.pac_board_course.proofs.Common.{by, end_of, err_from_is_err_and, is_some, rules, true, ◌<◌, ◌≡◌, ◌≤◌}
 use Rattle.pac_board_course.proofs.Whole.{underway-held-up, underway-stopped, underway-on, underway-ends}
 use Rattle.pac_board_course.proofs.course.Course.run_to_end.Goals as goal
 

@@ -1,7 +1,5 @@
 -- So far has the run been played.
-use Rattle.std.proofs.Common.{◌-◌}
-use Rattle.pac_board_course.specs.Course.{end_of}
-use Rattle.pac_board_course.specs.Frames.{IsUnderway}
+use Rattle.pac_board_course.proofs.Common.{IsUnderway, end_of, ◌-◌}
 use Rattle.pac_board_course.proofs.course.Course.run_to_end.Given as goal
 
 abbrev pub invariant-frames : goal.invariant-frames

@@ -1,5 +1,4 @@
 use Rattle.pac_board_model.proofs.Outputs.{outputs-timed}
-use Rattle.pac_board_model.proofs.laws.outputs.outputs_are_timed.Goals as goal
 
-pub returns : goal.returns
+pub returns : Rattle.pac_board_model.proofs.laws.outputs.outputs_are_timed.Goals.returns
 returns c = outputs-timed

@@ -1,5 +1,4 @@
 use Rattle.pac_board_model.proofs.ResumedTimes.{resumed-runs-are-timed}
-use Rattle.pac_board_model.proofs.laws.resumed.resumed_runs_are_timed.Goals as goal
 
-pub returns : goal.returns
+pub returns : Rattle.pac_board_model.proofs.laws.resumed.resumed_runs_are_timed.Goals.returns
 returns g c = resumed-runs-are-timed

@@ -1,5 +1,4 @@
 use Rattle.pac_board_model.proofs.Resumed.{stopped-runs-stay}
-use Rattle.pac_board_model.proofs.laws.resumed.stopped_runs_stay.Goals as goal
 
-pub returns : goal.returns
+pub returns : Rattle.pac_board_model.proofs.laws.resumed.stopped_runs_stay.Goals.returns
 returns g c = stopped-runs-stay

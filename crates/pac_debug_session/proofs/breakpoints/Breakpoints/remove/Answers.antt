@@ -1,7 +1,6 @@
 -- The other addresses stay, and stay marked.
-use Rattle.std.proofs.Common.{◌≡◌, ◌==◌, ℕ, List, filter, not, Some, slice_set, ap, subst, sym, ◌∙◌, rules}
-use Rattle.arrayvec.proofs.ArrayVecLemmas.{filter-from_retain}
-use Rattle.pac_debug_session.specs.Breakpoints.{AreStops}
+use Rattle.pac_debug_session.proofs.Common.{AreStops, List, Some, ap, filter, filter-from_retain, not, rules, slice_set, subst, sym, ℕ}
+use Rattle.pac_debug_session.proofs.Common.{◌==◌, ◌∙◌, ◌≡◌}
 use Rattle.pac_debug_session.proofs.Marked.{one-unmarked}
 use Rattle.pac_debug_session.proofs.breakpoints.Breakpoints.remove.Goals as goal
 

@@ -1,8 +1,6 @@
 -- The ring is full before and after: the oldest checkpoint goes, and another one comes.
-use Rattle.std.proofs.Common.{◌≡◌, ◌+◌, [], ◌∷◌, ◌++◌, length, drop, ap, ◌∙◌}
-use Rattle.circular_buffer.specs.Buffer.{Buffer, keep_last}
-use Rattle.pac_debug_session.specs.Keeping.{kept_of, ring_with_checkpoint}
-use Rattle.pac_debug_session.specs.declared.kept.SessionSnapshot.{SessionSnapshot}
+use Rattle.pac_debug_session.proofs.Common.{Buffer, SessionSnapshot, [], ap, drop, keep_last, kept_of, length, ring_with_checkpoint, ◌++◌}
+use Rattle.pac_debug_session.proofs.Common.{◌+◌, ◌∙◌, ◌∷◌, ◌≡◌}
 use Rattle.pac_debug_session.proofs.Rings.{one-for-one, as-many}
 use Rattle.pac_debug_session.proofs.checkpoints.Checkpoints.take.Goals as goal
 

@@ -1,5 +1,4 @@
-use Rattle.std.proofs.Common.{is_some, ap, ◌∙◌}
-use Rattle.pac_board_course.specs.Trails.{told_of}
+use Rattle.pac_debug_session.proofs.Common.{ap, is_some, told_of, ◌∙◌}
 use Rattle.pac_debug_session.proofs.Histories.{over-there}
 use Rattle.pac_debug_session.proofs.history.History.copy_from.Goals as goal
 

@@ -1,12 +1,6 @@
 -- What the course tells, in the trail that is there.
-use Rattle.std.proofs.Common.{◌≡◌, ℕ, min, true, List, Option, Some, is_some, refl, sym, ap, subst, ◌∙◌}
-use Rattle.pac_board_course.specs.BoardView.{BoardView}
-use Rattle.pac_board_course.specs.Course.{CourseValue, next_in}
-use Rattle.pac_board_course.specs.Frames.{frame_end}
-use Rattle.pac_board_course.specs.PastStep.{PastStep}
-use Rattle.pac_board_course.specs.Step.{Moment, Next}
-use Rattle.pac_board_course.specs.Trails.{IsNoted, told_of}
-use Rattle.pac_board_course.proofs.Noted.{noted-at}
+use Rattle.pac_debug_session.proofs.Common.{BoardView, CourseValue, IsNoted, List, Moment, Next, Option, PastStep, Some, ap, frame_end}
+use Rattle.pac_debug_session.proofs.Common.{is_some, min, next_in, noted-at, refl, subst, sym, told_of, true, ℕ, ◌∙◌, ◌≡◌}
 use Rattle.pac_debug_session.proofs.Histories.{some-there, noted-there}
 use Rattle.pac_debug_session.proofs.history.History.go.Goals as goal
 

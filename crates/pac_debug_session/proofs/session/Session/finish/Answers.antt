@@ -1,8 +1,5 @@
 -- To the end of the run.
-use Rattle.std.proofs.Common.{inl, inr, ◌∙◌, arith}
-use Rattle.std.proofs.lemmas.Result.{err_from_is_err_and}
-use Rattle.pac_board_course.specs.Course.{outcome_at}
-use Rattle.pac_board_course.specs.SinksLaws.{by}
+use Rattle.pac_debug_session.proofs.Common.{arith, by, err_from_is_err_and, inl, inr, outcome_at, ◌∙◌}
 use Rattle.pac_debug_session.proofs.Finished.{finished, finish-refused}
 use Rattle.pac_debug_session.proofs.Ends.{time-near}
 use Rattle.pac_debug_session.proofs.session.Session.finish.Goals as goal

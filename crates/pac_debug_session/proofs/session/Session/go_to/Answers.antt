@@ -1,12 +1,6 @@
 -- The session stands at what the slot keeps.
-use Rattle.std.proofs.Common.{◌≡◌, ℕ, ◌<◌, None, Some, Option, Ok, length, map, get_or, refl, ap, subst, sym, ◌∙◌, arith}
-use Rattle.pac_board_course.specs.State.{BoardValue, nothing_due}
-use Rattle.pac_board_course.specs.StateLaws.{restored_board}
-use Rattle.pac_debug_session.specs.declared.session.Empty.{Empty}
-use Rattle.pac_debug_session.specs.Inside.{session_setting}
-use Rattle.pac_debug_session.specs.Keeping.{mark_of}
-use Rattle.pac_debug_session.specs.MotionsProofs.{ReturnsTo}
-use Rattle.pac_debug_session.specs.Session.{SessionValue}
+use Rattle.pac_debug_session.proofs.Common.{BoardValue, Empty, None, Ok, Option, ReturnsTo, SessionValue, Some, ap, arith, get_or, length}
+use Rattle.pac_debug_session.proofs.Common.{map, mark_of, nothing_due, refl, restored_board, session_setting, subst, sym, ℕ, ◌<◌, ◌∙◌, ◌≡◌}
 use Rattle.pac_debug_session.proofs.Slots.{IsFilled, filled-at, mark-at, stands-at, standing-there, right-there, value-there}
 use Rattle.pac_debug_session.proofs.Steppings.{with_board}
 use Rattle.pac_debug_session.proofs.session.Session.go_to.Goals as goal

@@ -1,12 +1,7 @@
 -- The slot keeps what stands.
-use Rattle.std.proofs.Common.{◌≡◌, ℕ, true, List, Option, set, map, ap, subst, sym, ◌∙◌}
-use Rattle.std.proofs.lemmas.List.{map-set}
-use Rattle.pac_board_course.specs.State.{BoardValue, nothing_due}
-use Rattle.pac_debug_session.specs.declared.kept.SessionSnapshot.{SessionSnapshot}
-use Rattle.pac_debug_session.specs.Inside.{AreSlotsRight, session_setting}
-use Rattle.pac_debug_session.specs.Keeping.{kept_of, mark_of}
-use Rattle.pac_debug_session.specs.Motions.{session_with_slot}
-use Rattle.pac_debug_session.specs.Session.{SessionValue}
+use Rattle.pac_debug_session.proofs.Common.{AreSlotsRight, BoardValue, List, Option, SessionSnapshot, SessionValue, ap, kept_of, map}
+use Rattle.pac_debug_session.proofs.Common.{map-set, mark_of, nothing_due, session_setting, session_with_slot, set, subst, sym, true, ℕ}
+use Rattle.pac_debug_session.proofs.Common.{◌∙◌, ◌≡◌}
 use Rattle.pac_debug_session.proofs.Slots.{right-set}
 use Rattle.pac_debug_session.proofs.Steppings.{with_board}
 use Rattle.pac_debug_session.proofs.session.Session.keep.Goals as goal

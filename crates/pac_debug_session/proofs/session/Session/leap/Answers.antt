@@ -1,13 +1,7 @@
 -- What stood before the steps stands after them, and what they gave was offered.
-use Rattle.std.proofs.Common.{◌≡◌, max, nat_lt, ap, sym, subst, ◌∙◌, arith, rules}
-use Rattle.pac_board_course.specs.RomParts.{Parts}
-use Rattle.pac_board_course.specs.SinksLaws.{by}
-use Rattle.pac_board_course.specs.State.{nothing_due}
-use Rattle.pac_debug_session.specs.Breakpoints.{heeded_if}
-use Rattle.pac_debug_session.specs.Inside.{IsStanding, AreSlotsRight, session_view}
-use Rattle.pac_debug_session.specs.Keeping.{kept_of, ring_after_index}
-use Rattle.pac_debug_session.specs.Session.{SessionValue}
-use Rattle.pac_debug_session.specs.Strides.{leap_limit, stop_unless}
+use Rattle.pac_debug_session.proofs.Common.{AreSlotsRight, IsStanding, Parts, SessionValue, ap, arith, by, heeded_if, kept_of, leap_limit}
+use Rattle.pac_debug_session.proofs.Common.{max, nat_lt, nothing_due, ring_after_index, rules, session_view, stop_unless, subst, sym, ◌∙◌}
+use Rattle.pac_debug_session.proofs.Common.{◌≡◌}
 use Rattle.pac_debug_session.proofs.Leapt.{session_on, taken-up, leaps-so, stands-then, set-then, asked-then}
 use Rattle.pac_debug_session.proofs.Steppings.{IsLeft, left, right-later}
 use Rattle.pac_debug_session.proofs.session.Session.leap.Goals as goal

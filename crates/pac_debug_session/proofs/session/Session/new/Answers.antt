@@ -1,8 +1,5 @@
 -- The session stands at the beginning of its run.
-use Rattle.std.proofs.Common.{◌≡◌, ◌*◌, length, map, ap, ◌∙◌, arith, rules}
-use Rattle.pac_board_course.specs.Stretches.{held}
-use Rattle.pac_board_course.specs.State.{board_with_inputs}
-use Rattle.pac_debug_session.specs.Keeping.{mark_of}
+use Rattle.pac_debug_session.proofs.Common.{ap, arith, board_with_inputs, held, length, map, mark_of, rules, ◌*◌, ◌∙◌, ◌≡◌}
 use Rattle.pac_debug_session.proofs.Begun.{new-asked, stands-first, right-empty, value-first}
 use Rattle.pac_debug_session.proofs.Steppings.{with_board}
 use Rattle.pac_debug_session.proofs.session.Session.new.Goals as goal

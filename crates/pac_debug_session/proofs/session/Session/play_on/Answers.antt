@@ -1,12 +1,6 @@
 -- What was due, what was done before, and then the way on of a course.
-use Rattle.std.proofs.Common.{◌≤◌, ◌+◌, ◌*◌, inl, inr, ap, sym, subst, ◌∙◌}
-use Rattle.std.proofs.lemmas.Result.{err_from_is_err_and}
-use Rattle.pac_board_course.specs.SinksLaws.{by}
-use Rattle.pac_board_course.specs.Stretches.{most_frames}
-use Rattle.pac_board_course.specs.State.{BoardValue}
-use Rattle.pac_board_course.specs.Step.{frame_ticks}
-use Rattle.pac_board_course.specs.Course.{outcome_at}
-use Rattle.pac_debug_session.specs.Playing.{course_of}
+use Rattle.pac_debug_session.proofs.Common.{BoardValue, ap, by, course_of, err_from_is_err_and, frame_ticks, inl, inr, most_frames}
+use Rattle.pac_debug_session.proofs.Common.{outcome_at, subst, sym, ◌*◌, ◌+◌, ◌∙◌, ◌≤◌}
 use Rattle.pac_debug_session.proofs.PlayedOn.{stands-there, played, ends-near, held-up}
 use Rattle.pac_debug_session.proofs.session.Session.play_on.Goals as goal
 

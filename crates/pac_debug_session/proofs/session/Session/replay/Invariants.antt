@@ -1,6 +1,5 @@
 -- The steps so far were done again.
-use Rattle.std.proofs.Common.{◌≡◌, ◌-◌, ◌≤◌}
-use Rattle.pac_debug_session.specs.MotionsProofs.{replayed_to}
+use Rattle.pac_debug_session.proofs.Common.{replayed_to, ◌-◌, ◌≡◌, ◌≤◌}
 use Rattle.pac_debug_session.proofs.session.Session.replay.Given as goal
 
 abbrev pub invariant-again : goal.invariant-again

@@ -1,11 +1,6 @@
 -- The session stands at the checkpoint.
-use Rattle.std.proofs.Common.{◌≡◌, ◌+◌, ◌-◌, ◌*◌, ap, subst, ◌∙◌, arith}
-use Rattle.pac_board_course.specs.State.{BoardValue, nothing_due}
-use Rattle.pac_board_course.specs.StateLaws.{restored_board}
-use Rattle.pac_debug_session.specs.Inside.{IsStanding, session_setting}
-use Rattle.pac_debug_session.specs.Keeping.{IsKeptAt}
-use Rattle.pac_debug_session.specs.Motions.{checkpoint_steps, checkpoint_count}
-use Rattle.pac_debug_session.specs.Session.{SessionValue}
+use Rattle.pac_debug_session.proofs.Common.{BoardValue, IsKeptAt, IsStanding, SessionValue, ap, arith, checkpoint_count, checkpoint_steps}
+use Rattle.pac_debug_session.proofs.Common.{nothing_due, restored_board, session_setting, subst, ◌*◌, ◌+◌, ◌-◌, ◌∙◌, ◌≡◌}
 use Rattle.pac_debug_session.proofs.Backwards.{checkpoint-there}
 use Rattle.pac_debug_session.proofs.Slots.{stands-at, standing-there, right-there, value-there}
 use Rattle.pac_debug_session.proofs.session.Session.rewind.Goals as goal

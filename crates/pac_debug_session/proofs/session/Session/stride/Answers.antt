@@ -1,11 +1,8 @@
 -- Before the furthest index what the steps give was taken before; from there on it is fresh.
-use Rattle.std.proofs.Common.{◌-◌, ap, ◌∙◌, arith}
-use Rattle.pac_board_course.specs.SinksLaws.{by}
-use Rattle.pac_debug_session.specs.Strides.{longest_stride}
+use Rattle.pac_debug_session.proofs.Common.{ap, arith, by, longest_stride, ◌-◌, ◌∙◌}
 use Rattle.pac_debug_session.proofs.Travelled.{strode-stale}
-use Rattle.pac_debug_session.proofs.session.Session.stride.Goals as goal
 
-pub returns : goal.returns
+pub returns : Rattle.pac_debug_session.proofs.session.Session.stride.Goals.returns
 returns g c =
     let old = c.args.self.now in
     let index = c.index-index.ensures in

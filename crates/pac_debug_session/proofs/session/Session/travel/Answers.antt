@@ -1,9 +1,6 @@
 -- From step to step.
-use Rattle.std.proofs.Common.{ap, sym, subst, ◌∙◌, rules, arith}
-use Rattle.std.proofs.lemmas.Result.{err_from_is_err_and}
-use Rattle.pac_board_course.specs.SinksLaws.{by}
-use Rattle.pac_debug_session.specs.declared.motion.MotionEnd.{MotionEnd}
-use Rattle.pac_debug_session.specs.Motions.{HasTravelled, motion_ending}
+use Rattle.pac_debug_session.proofs.Common.{HasTravelled, MotionEnd, ap, arith, by, err_from_is_err_and, motion_ending, rules, subst, sym}
+use Rattle.pac_debug_session.proofs.Common.{◌∙◌}
 use Rattle.pac_debug_session.proofs.Travelled.{underway-more, underway-met, underway-stopped, underway-refused}
 use Rattle.pac_debug_session.proofs.session.Session.travel.Goals as goal
 

@@ -1,7 +1,5 @@
 -- So far no index rests; the time that is left falls.
-use Rattle.std.proofs.Common.{◌≡◌, ◌-◌, ◌<◌, ◌^◌}
-use Rattle.pac_board_course.specs.SinksLaws.{by}
-use Rattle.pac_debug_session.specs.Running.{now_at, limit, blanks_at}
+use Rattle.pac_debug_session.proofs.Common.{blanks_at, by, limit, now_at, ◌-◌, ◌<◌, ◌^◌, ◌≡◌}
 use Rattle.pac_debug_session.proofs.Travelled.{IsUnderway}
 use Rattle.pac_debug_session.proofs.session.Session.travel.Given as goal
 

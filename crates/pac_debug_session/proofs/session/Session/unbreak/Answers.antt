@@ -1,8 +1,6 @@
 -- What is left are the other breakpoints.
-use Rattle.std.proofs.Common.{ℕ, ◌==◌, not, length, List, map, refl, ap, ◌∙◌, arith}
-use Rattle.std.proofs.lemmas.List.Filters.{length-filter_both}
-use Rattle.pac_debug_session.specs.Keeping.{mark_of}
-use Rattle.pac_debug_session.specs.Session.{SessionValue, without_breakpoint}
+use Rattle.pac_debug_session.proofs.Common.{List, SessionValue, ap, arith, length, length-filter_both, map, mark_of, not, refl}
+use Rattle.pac_debug_session.proofs.Common.{without_breakpoint, ℕ, ◌==◌, ◌∙◌}
 use Rattle.pac_debug_session.proofs.Steppings.{with_board}
 use Rattle.pac_debug_session.proofs.session.Session.unbreak.Goals as goal
 

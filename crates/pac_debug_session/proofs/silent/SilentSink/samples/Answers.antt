@@ -1,5 +1,4 @@
 use Rattle.pac_debug_session.proofs.Swallowed.{swallowed}
-use Rattle.pac_debug_session.proofs.silent.SilentSink.samples.Goals as goal
 
-pub returns : goal.returns
+pub returns : Rattle.pac_debug_session.proofs.silent.SilentSink.samples.Goals.returns
 returns c = swallowed _ c.args.self.now

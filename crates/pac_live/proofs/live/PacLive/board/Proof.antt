@@ -1,13 +1,9 @@
 -- The board of an open handle is lent, and the handle follows it.
+use Rattle.pac_live.proofs.Common.{BoardValue, PacLive, live_memory, live_seal, live_size, live_with_board, nat_le}
 use Rattle.pac_live.proofs.Walks.{ℕ, List, [], ◌∷◌, ◌≡◌, ◌==◌, true, refl, sym, ap, proved, Ura, full_share, id⊢, ent, sep, Fml, GName, ftrue, flft, fsep, named, Val, vptr, Logic, sem, tables, ‵, raw, ◌⊛◌, some, later, at_ret, ◌$◌, ◌∵◌, !, qed, done, move, keep, drop, use0, use1, split, join, fsplit, fsplit3, fjoin, fpack, pick, await, rewrite, suffices, frame, group, enter, of_opd, addr, load, first, blocks, exec, returns, stop, fld, alloc_all, pass_all, free_all, look_at, get, through, sets, sets_last, env, no, follows, Part, lends_Part, mem, cell_at, part_at, Ptr, block_ptr, lies_at, in_a_block, MutRef, mut_vals, mut_Tells, plain, mut_ref_to, nothing, heard, Stays, walk_of, says, stay_dropped, Goes-spent_ref, ends_at, whole, sub, look_in, after}
 use denote.Memory.{part_of}
-use Rattle.std.specs.Prelude.{nat_le}
-use Rattle.pac_board.specs.State.{BoardValue}
 use Rattle.pac_board.specs.contracts.board.Board.{the_row as B}
-use Rattle.pac_live.specs.declared.live.PacLive.{PacLive}
 use Rattle.pac_live.specs.contracts.live.PacLive.{the_row as R}
-use Rattle.pac_live.specs.Handle.{live_with_board}
-use Rattle.pac_live.specs.LiveMemory.{live_memory, live_seal, live_size}
 use Rattle.pac_live.proofs.LiveHandle.{handle_val, handle_own, handle_made, handle_opens, val_of}
 use Rattle.pac_live.specs.contracts.live.PacLive.board as f
 use Rattle.pac_live.proofs.live.PacLive.board.Statement.{statement}

@@ -1,10 +1,8 @@
 -- The seal of an open handle is taken away, and the board's memory is room again.
+use Rattle.pac_live.proofs.Common.{BoardValue, live_memory, live_seal, live_size, nat_le}
 use Rattle.pac_live.proofs.Walks.{[], ◌∷◌, ◌≡◌, ◌==◌, Bool, true, false, refl, sym, ap, lit<, proved, Ura, full_share, id⊢, ent, ftrue, fat, flft, froom, named, Val, vunit, Logic, sem, ‵, raw, ◌⊛◌, some, ◌$◌, ◌∵◌, !, qed, done, move, keep, drop, use1, split, join, fsplit3, pick, rewrite, suffices, frame, group, feq_i, enter, of_opd, lit, unit_lit, assigns, returns, stop, fld, alloc_all, pass_all, free_all, look_at, through, sets, Ptr, lies_at, room_at, in_a_block, part_out, lone, MutRef, mut_vals, mut_Tells, plain, nothing, heard, Stays, walk_of, says, stay_ref, Goes-ref, ends_at, whole, sub, store_in}
-use Rattle.std.specs.Prelude.{nat_le}
-use Rattle.pac_board.specs.State.{BoardValue}
 use Rattle.pac_board.specs.contracts.board.Board.{the_row as B}
 use Rattle.pac_live.specs.contracts.live.PacLive.{the_row as R}
-use Rattle.pac_live.specs.LiveMemory.{live_memory, live_seal, live_size}
 use Rattle.pac_live.proofs.LiveHandle.{handle_opens, handle_closes}
 use Rattle.pac_live.specs.contracts.live.PacLive.close as f
 use Rattle.pac_live.proofs.live.PacLive.close.Statement.{statement}

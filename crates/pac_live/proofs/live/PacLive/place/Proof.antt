@@ -1,14 +1,9 @@
 -- A board is written into the memory that a closed handle is lent, and the seal is set.
+use Rattle.pac_live.proofs.Common.{IsLent, arith, live_memory, live_seal, live_size, live_with_board, nat_le, nat_tests, ◌≢◌, ◌≤◌}
 use Rattle.pac_live.proofs.Walks.{ℕ, List, [], ◌∷◌, ◌≡◌, ◌==◌, true, false, refl, sym, ap, proved_at, full_share, id⊢, SProp, ftrue, flft, named, Val, vunit, w64, tables, ‵, raw, ◌⊛◌, prop, at_ret, ◌$◌, ◌∵◌, !, qed, done, move, keep, use2, split, join, fsplit, fsplit3, feq_i, rewrite, regoal, suffices, frame, group, enter, of_opd, load, unit_lit, assigns, assigns_last, init, first, blocks, exec, returns, stop, fld, alloc_all, pass_all, free_all, look_at, get, through, sets, env, WpFn, Ptr, lies_at, room_at, in_a_block, part_at, part_in, lone, mut_Tells, uint_Tells, cell_at, ◌++◌, plain, types_at, owns, u64, nothing, heard, Stays, walk_of, says, stay_ref, stay_dropped, Goes-ref, Goes-dropped, Goes-blank, ends_at, whole, sub, look_in, store_in, after}
-use Rattle.std.proofs.Common.{◌≢◌, ◌≤◌, arith}
-use Rattle.std.proofs.lemmas.Bool.Decides.{nat_tests}
-use Rattle.std.specs.Prelude.{nat_le}
 use Rattle.pac_board.specs.contracts.board.Board.{the_row as B}
 use Rattle.pac_board.proofs.board.Board.TheLaws as board_laws
 use Rattle.pac_live.specs.contracts.live.PacLive.{the_row as R}
-use Rattle.pac_live.specs.Handle.{live_with_board}
-use Rattle.pac_live.specs.Lent.{IsLent}
-use Rattle.pac_live.specs.LiveMemory.{live_memory, live_seal, live_size}
 use Rattle.pac_live.proofs.LiveHandle.{one, handle_val, handle_opens, handle_closes}
 use Rattle.pac_live.specs.contracts.live.PacLive.place as f
 use Rattle.pac_live.proofs.live.PacLive.place.Statement.{statement}

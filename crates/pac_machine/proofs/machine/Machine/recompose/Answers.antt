@@ -1,11 +1,8 @@
-use Rattle.std.proofs.Common.{◌≡◌, ◌≤◌, ◌-◌, ◌∙◌, ℕ, length, sym, ap, arith}
-use Rattle.pac_machine.specs.BurstsProofs.{standing_composed}
-use Rattle.pac_machine.specs.Standing.{passed_lines, recomposed_view}
-use Rattle.pac_machine.specs.StandingProofs.{BoardStanding}
+use Rattle.pac_machine.proofs.Common.{BoardStanding, ap, arith, length, passed_lines, recomposed_view, standing_composed, sym, ℕ, ◌-◌, ◌∙◌}
+use Rattle.pac_machine.proofs.Common.{◌≡◌, ◌≤◌}
 use Rattle.pac_machine.proofs.Recomposed.{recomposed}
-use Rattle.pac_machine.proofs.machine.Machine.recompose.Goals as goal
 
-pub returns : goal.returns
+pub returns : Rattle.pac_machine.proofs.machine.Machine.recompose.Goals.returns
 returns c =
     let old = c.args.self.now in
     let count = c.passed_lines.result in

@@ -1,14 +1,6 @@
-use Rattle.std.proofs.Common.{ap, sym, ◌∙◌, rules}
-use Rattle.pac_map.specs.RomParts.{Parts}
-use Rattle.pac_map.specs.PartsProofs.{zero_parts}
-use Rattle.pac_picture.specs.LayerProofs.{zero_roms}
-use Rattle.pac_picture.specs.StateLaws.{PictureState}
-use Rattle.pac_picture.specs.State.{palette_of}
-use Rattle.pac_board_model.specs.BoardView.{video_roms}
-use Rattle.pac_wave.specs.Settings.{SoundSource}
-use Rattle.pac_machine.proofs.machine.Machine.without_roms.Goals as goal
+use Rattle.pac_machine.proofs.Common.{Parts, PictureState, SoundSource, ap, palette_of, rules, sym, video_roms, zero_parts, zero_roms, ◌∙◌}
 
-pub invariant_of-result : goal.invariant_of-result
+pub invariant_of-result : Rattle.pac_machine.proofs.machine.Machine.without_roms.Goals.invariant_of-result
 unfolding zero_parts zero_roms
 invariant_of-result c = record {
   steps = search rules;

@@ -1,14 +1,9 @@
 -- What was written, or else read.
-use Rattle.std.proofs.Common.{sym, ◌∙◌, Some}
-use Rattle.pac_cpu.specs.Step.{cpu_step}
-use Rattle.pac_cpu.specs.StepLaws.{surroundings_of}
-use Rattle.pac_cpu.specs.StepReads.{reads_in}
-use Rattle.pac_map.specs.ContentsProofs.{map_byte_at, map_input_at, map_after_action}
-use Rattle.pac_machine.specs.Watches.{first_of, first_read}
+use Rattle.pac_machine.proofs.Common.{Some, cpu_step, first_of, first_read, map_after_action, map_byte_at, map_input_at, reads_in}
+use Rattle.pac_machine.proofs.Common.{surroundings_of, sym, ◌∙◌}
 use Rattle.pac_machine.proofs.Watched.{read-after}
-use Rattle.pac_machine.proofs.watch.WatchedAddressesWatch.step.Goals as goal
 
-pub returns-clause-met : goal.returns-clause-met
+pub returns-clause-met : Rattle.pac_machine.proofs.watch.WatchedAddressesWatch.step.Goals.returns-clause-met
 returns-clause-met c = λ none.
     let marks = Some c.args.self.now.marks.now in
     let regs = c.args.cpu.now in

@@ -1,10 +1,8 @@
 -- What was cleared is as at power-on.
-use Rattle.std.proofs.Common.{sym, subst}
-use Rattle.pac_map.specs.View.{IsWellFormed}
+use Rattle.pac_map.proofs.Common.{IsWellFormed, subst, sym}
 use Rattle.pac_map.proofs.WellFormed.{power-on-well-formed}
-use Rattle.pac_map.proofs.memory.Memory.new.Goals as goal
 
-pub invariant_of-result : goal.invariant_of-result
+pub invariant_of-result : Rattle.pac_map.proofs.memory.Memory.new.Goals.invariant_of-result
 invariant_of-result c = subst IsWellFormed (sym (λ i. record {
   switches = c.args.switches;
   held = c.from_bits_retain.ensures tt i;

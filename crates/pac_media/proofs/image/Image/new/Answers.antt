@@ -1,6 +1,4 @@
-use Rattle.std.proofs.Common.{arith}
-use Rattle.pac_picture.proofs.Composed.{black-picture}
-use Rattle.pac_media.proofs.image.Image.new.Goals as goal
+use Rattle.pac_media.proofs.Common.{arith, black-picture}
 
-pub invariant_of-result : goal.invariant_of-result
+pub invariant_of-result : Rattle.pac_media.proofs.image.Image.new.Goals.invariant_of-result
 invariant_of-result c = grind (arith, black-picture)

@@ -1,12 +1,8 @@
 -- What was picked of the three planes, woven and written part by part.
-use Rattle.std.proofs.Common.{◌≡◌, ◌<◌, ℕ, length, map, get_or, slice_index, ap, ◌∙◌}
-use Rattle.std.specs.List.{flat_map}
-use Rattle.pac_media.specs.Images.{palette_colour}
-use Rattle.pac_media.specs.Drawn.{rgb_pixels}
+use Rattle.pac_media.proofs.Common.{ap, flat_map, get_or, length, map, palette_colour, rgb_pixels, slice_index, ℕ, ◌<◌, ◌∙◌, ◌≡◌}
 use Rattle.pac_media.proofs.Pixels.{three-parts, woven-pixels}
-use Rattle.pac_media.proofs.palette.Palette.colour.Goals as goal
 
-pub returns : goal.returns
+pub returns : Rattle.pac_media.proofs.palette.Palette.colour.Goals.returns
 returns c =
     let numbers = c.args.numbers.now in
     let planes = c.self.inside.planes in

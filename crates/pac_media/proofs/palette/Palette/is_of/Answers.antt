@@ -1,9 +1,6 @@
-use Rattle.std.proofs.Common.{◌≡◌, ◌∙◌, sym, refl}
-use Rattle.std.proofs.lemmas.Bool.Decides.{Decides-eqb}
-use Rattle.std.proofs.lemmas.Slice.Eq.{slice_eq-Decides}
-use Rattle.pac_media.proofs.palette.Palette.is_of.Goals as goal
+use Rattle.pac_media.proofs.Common.{Decides-eqb, refl, slice_eq-Decides, sym, ◌∙◌, ◌≡◌}
 
-pub returns : goal.returns
+pub returns : Rattle.pac_media.proofs.palette.Palette.is_of.Goals.returns
 returns c =
     let both = slice_eq-Decides (λ a b. slice_eq-Decides Decides-eqb a b _ refl) c.as_slice.result.now c.args.colours.now
     c.eq.result c.eq.ensures in

@@ -1,7 +1,5 @@
-use Rattle.std.proofs.Common.{◌≡◌, ℕ, ◌+◌, ◌-◌, ◌<◌, List, pos, replicate, subst, arith, rules}
-use Rattle.std.proofs.lemmas.Result.{err_from_is_err_and}
-use Rattle.pac_media.specs.Samples.{samples_text}
-use Rattle.pac_media.specs.Sound.{Gains, SoundFails}
+use Rattle.pac_media.proofs.Common.{Gains, List, SoundFails, arith, err_from_is_err_and, pos, replicate, rules, samples_text, subst, ℕ, ◌+◌}
+use Rattle.pac_media.proofs.Common.{◌-◌, ◌<◌, ◌≡◌}
 use Rattle.pac_media.proofs.Gathered.{fails-within, finishes-after, gains-joined, gains-nothing, silence-more, silence-rest}
 use Rattle.pac_media.proofs.wave_file.WaveFile.finish.Goals as goal
 

@@ -1,9 +1,6 @@
-use Rattle.std.proofs.Common.{◌≡◌, ◌+◌, true, pos, replicate}
-use Rattle.pac_media.specs.Samples.{samples_text}
-use Rattle.pac_media.specs.Sound.{Gains}
-use Rattle.pac_media.proofs.wave_file.WaveFile.finish.Given as goal
+use Rattle.pac_media.proofs.Common.{Gains, pos, replicate, samples_text, true, ◌+◌, ◌≡◌}
 
-abbrev pub invariant-loop : goal.invariant-loop
+abbrev pub invariant-loop : Rattle.pac_media.proofs.wave_file.WaveFile.finish.Given.invariant-loop
 invariant-loop g l = record {
   given : Gains g.W.Out.took l.fn.self (samples_text (replicate l.counter (pos 0))) l.self;
   owed : l.self.owed + l.counter ≡ l.fn.self.owed;

@@ -1,10 +1,7 @@
-use Rattle.std.proofs.Common.{ℕ, List, subst, rules}
-use Rattle.std.proofs.lemmas.Result.{err_from_is_err_and}
-use Rattle.pac_out.specs.CountedLaws.{Refuses}
+use Rattle.pac_media.proofs.Common.{List, Refuses, err_from_is_err_and, rules, subst, ℕ}
 use Rattle.pac_media.proofs.Gathered.{fails-waiting}
-use Rattle.pac_media.proofs.wave_file.WaveFile.flush.Goals as goal
 
-pub returns-in_err-put-clause-written : goal.returns-in_err-put-clause-written
+pub returns-in_err-put-clause-written : Rattle.pac_media.proofs.wave_file.WaveFile.flush.Goals.returns-in_err-put-clause-written
 returns-in_err-put-clause-written g c =
     let told = err_from_is_err_and c.from_residual-in_err-put.result c.from_residual-in_err-put.ensures.1 in
     rw (told.1, told.2)

@@ -1,12 +1,8 @@
-use Rattle.std.proofs.Common.{◌≡◌, ◌+◌, ◌<◌, ◌≤◌, ◌∙◌, Bool, length, ◌++◌, ap, arith, subst, sym, w16}
-use Rattle.std.specs.Prelude.{MatchBool}
-use Rattle.std.proofs.lemmas.Int.{to_z-of_z}
-use Rattle.pac_media.specs.Samples.{sample_text}
-use Rattle.pac_media.specs.Sound.{Sound, sample_room}
+use Rattle.pac_media.proofs.Common.{Bool, MatchBool, Sound, ap, arith, length, sample_room, sample_text, subst, sym, to_z-of_z, w16, ◌++◌}
+use Rattle.pac_media.proofs.Common.{◌+◌, ◌<◌, ◌∙◌, ◌≡◌, ◌≤◌}
 use Rattle.pac_media.proofs.Gathered.{gains-waiting, room-left}
-use Rattle.pac_media.proofs.wave_file.WaveFile.keep.Goals as goal
 
-pub returns-clause-put : goal.returns-clause-put
+pub returns-clause-put : Rattle.pac_media.proofs.wave_file.WaveFile.keep.Goals.returns-clause-put
 returns-clause-put g c =
     let some = subst (λ (sound : Sound g.row.W.Denot). 0 < sample_room sound) (sym c.self.view_is) c.requires in
     let left = room-left c.self.inside.file.failed (length c.self.inside.waiting.items) some in

@@ -1,7 +1,4 @@
-use Rattle.std.proofs.Common.{◌≡◌, ◌≤◌, ◌+◌, ◌∙◌, Bool, length, ◌++◌, ap, arith, refl, subst}
-use Rattle.std.specs.Prelude.{MatchBool}
-use Rattle.std.proofs.lemmas.Result.{err_from_is_err_and}
-use Rattle.pac_media.specs.Sound.{Sound}
+use Rattle.pac_media.proofs.Common.{Bool, MatchBool, Sound, ap, arith, err_from_is_err_and, length, refl, subst, ◌++◌, ◌+◌, ◌∙◌, ◌≡◌, ◌≤◌}
 use Rattle.pac_media.proofs.Gathered.{fails-within, gains-nothing, gains-joined, gains-waiting, delivered-gains}
 use Rattle.pac_media.proofs.wave_file.WaveFile.make_room.Goals as goal
 

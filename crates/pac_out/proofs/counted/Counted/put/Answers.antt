@@ -1,5 +1,4 @@
-use Rattle.std.proofs.Common.{ap, refl, sym, ◌∙◌, true≢false, arith, length-append}
-use Rattle.pac_out.specs.CountedWriter.{CountedWriter}
+use Rattle.pac_out.proofs.Common.{CountedWriter, ap, arith, length-append, refl, sym, true≢false, ◌∙◌}
 use Rattle.pac_out.proofs.Files.{stops-after}
 use Rattle.pac_out.proofs.counted.Counted.put.Goals as goal
 

@@ -1,5 +1,4 @@
-use Rattle.std.proofs.Common.{◌∙◌}
-use Rattle.std.proofs.lemmas.Result.{err_from_is_err_and}
+use Rattle.pac_out.proofs.Common.{err_from_is_err_and, ◌∙◌}
 use Rattle.pac_out.proofs.Files.{refuses-within}
 use Rattle.pac_out.proofs.Gathering.{gathers-put}
 use Rattle.pac_out.proofs.pending.Pending.put_full.Goals as goal

@@ -1,7 +1,4 @@
-use Rattle.std.proofs.Common.{List, ℕ, [], ◌+◌, drop, subst, ap}
-use Rattle.std.proofs.lemmas.List.{drop_more}
-use Rattle.std.proofs.lemmas.Result.{err_from_is_err_and}
-use Rattle.std.specs.List.{flat_map}
+use Rattle.pac_out.proofs.Common.{List, [], ap, drop, drop_more, err_from_is_err_and, flat_map, subst, ℕ, ◌+◌}
 use Rattle.pac_out.proofs.Gathering.{Leaves, leaves-less, leaves-refused}
 use Rattle.pac_out.proofs.pending.Pending.put_pieces.Goals as goal
 

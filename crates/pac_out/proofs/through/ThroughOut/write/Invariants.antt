@@ -1,5 +1,4 @@
 use Rattle.std.specs.Io.KnownBytes.{Keeps}
-use Rattle.pac_out.proofs.through.ThroughOut.write.Given as goal
 
-abbrev pub invariant-loop : goal.invariant-loop
+abbrev pub invariant-loop : Rattle.pac_out.proofs.through.ThroughOut.write.Given.invariant-loop
 invariant-loop g l = Keeps (g.W.Write.contents l.initial.self.inner) (g.W.Write.contents l.self.inner)

@@ -1,6 +1,4 @@
-use Rattle.std.proofs.Common.{false}
-use Rattle.pac_lemmas.proofs.Lists.{get_or-replicate-all}
-use Rattle.pac_picture.proofs.clean.Clean.none.Goals as goal
+use Rattle.pac_picture.proofs.Common.{false, get_or-replicate-all}
 
-pub returns : goal.returns
+pub returns : Rattle.pac_picture.proofs.clean.Clean.none.Goals.returns
 returns c = λ line. get_or-replicate-all 224 line false

@@ -1,9 +1,5 @@
-use Rattle.std.proofs.Common.{◌≡◌, ◌<◌, length, rules, arith, [], ap, subst, ◌∙◌}
-use Rattle.pac_lemmas.proofs.Lists.{set-one-more}
-use Rattle.pac_num.proofs.Tabulated.{tabulate-is}
-use Rattle.pac_picture.specs.Picture.{VideoRoms}
-use Rattle.pac_picture.specs.Strips.{tile_pairs}
-use Rattle.pac_picture.specs.Decoded.{AreNumbersOf, tile_pair}
+use Rattle.pac_picture.proofs.Common.{AreNumbersOf, VideoRoms, [], ap, arith, length, rules, set-one-more, subst, tabulate-is, tile_pair}
+use Rattle.pac_picture.proofs.Common.{tile_pairs, ◌<◌, ◌∙◌, ◌≡◌}
 use Rattle.pac_picture.proofs.Decoded.{pair-dots, pair-is, pair-below, values-are-places}
 use Rattle.pac_picture.proofs.graphics.Graphics.pattern.Goals as goal
 

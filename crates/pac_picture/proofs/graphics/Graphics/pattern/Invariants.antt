@@ -1,9 +1,6 @@
-use Rattle.std.proofs.Common.{◌≡◌, ◌<◌, ◌+◌, ◌*◌, ◌/◌, ◌%◌, ℕ, [], length, get_or}
-use Rattle.pac_num.specs.Tabulate.{tabulate}
-use Rattle.pac_picture.specs.Picture.{tile_number}
-use Rattle.pac_picture.proofs.graphics.Graphics.pattern.Given as goal
+use Rattle.pac_picture.proofs.Common.{[], get_or, length, tabulate, tile_number, ℕ, ◌%◌, ◌*◌, ◌+◌, ◌/◌, ◌<◌, ◌≡◌}
 
-abbrev pub invariant-loop-pair : goal.invariant-loop-pair
+abbrev pub invariant-loop-pair : Rattle.pac_picture.proofs.graphics.Graphics.pattern.Given.invariant-loop-pair
 invariant-loop-pair l = record {
   long : length l.lines ≡ 4;
   filled : (n : ℕ) → n < l.pair →

@@ -1,6 +1,4 @@
-use Rattle.std.proofs.Common.{rules, ap, subst, ◌∙◌}
-use Rattle.pac_picture.specs.Picture.{VideoRoms}
-use Rattle.pac_picture.specs.Decoded.{AreNumbersOf, sprite_values}
+use Rattle.pac_picture.proofs.Common.{AreNumbersOf, VideoRoms, ap, rules, sprite_values, subst, ◌∙◌}
 use Rattle.pac_picture.proofs.Decoded.{sprite-line, sprite-below, values-are-places}
 use Rattle.pac_picture.proofs.graphics.Graphics.sprite_line.Goals as goal
 

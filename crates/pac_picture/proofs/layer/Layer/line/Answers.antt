@@ -1,10 +1,7 @@
-use Rattle.std.proofs.Common.{◌≡◌, ◌<◌, ◌/◌, ◌∙◌, false, arith}
-use Rattle.pac_picture.specs.Layer.{shadow_at}
-use Rattle.pac_picture.specs.LayerProofs.{lines_at}
+use Rattle.pac_picture.proofs.Common.{arith, false, lines_at, shadow_at, ◌/◌, ◌<◌, ◌∙◌, ◌≡◌}
 use Rattle.pac_picture.proofs.Layers.{line-kept}
-use Rattle.pac_picture.proofs.layer.Layer.line.Goals as goal
 
-pub returns : goal.returns
+pub returns : Rattle.pac_picture.proofs.layer.Layer.line.Goals.returns
 returns c =
     let row : c.args.y / 8 < 28 = omega (arith, c.requires.y) in
     let drawn = c.self.invariant.drawn (c.args.y / 8) row in

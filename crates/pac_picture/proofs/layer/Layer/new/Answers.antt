@@ -1,7 +1,4 @@
-use Rattle.std.proofs.Common.{◌≡◌, ◌∙◌, List, ap}
-use Rattle.pac_num.specs.Tabulate.{tabulate}
-use Rattle.pac_picture.specs.declared.shadow.Shadow.{Shadow}
-use Rattle.pac_picture.specs.LayerProofs.{stale_rows}
+use Rattle.pac_picture.proofs.Common.{List, Shadow, ap, stale_rows, tabulate, ◌∙◌, ◌≡◌}
 use Rattle.pac_picture.proofs.Places.{length-is}
 use Rattle.pac_picture.proofs.Layers.{new-layer}
 use Rattle.pac_picture.proofs.layer.Layer.new.Goals as goal

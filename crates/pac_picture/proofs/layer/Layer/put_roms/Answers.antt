@@ -1,7 +1,6 @@
 use Rattle.pac_picture.proofs.Stale.{made-are-stale, undrawn-layer}
-use Rattle.pac_picture.proofs.layer.Layer.put_roms.Goals as goal
 
-pub invariant_of-self : goal.invariant_of-self
+pub invariant_of-self : Rattle.pac_picture.proofs.layer.Layer.put_roms.Goals.invariant_of-self
 invariant_of-self c =
     undrawn-layer c.put.new.self c.make_stale.new.shadows c.self.inside.rows
     (made-are-stale c.self.inside.shadows c.make_stale.new.shadows c.make_stale.ensures c.self.invariant.shadows_high)

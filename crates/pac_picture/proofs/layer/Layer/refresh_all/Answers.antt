@@ -1,5 +1,4 @@
-use Rattle.std.proofs.Common.{◌≡◌, ◌<◌, ◌∙◌, length, rules, refl, arith, length-set}
-use Rattle.pac_picture.specs.Layer.{all_differing}
+use Rattle.pac_picture.proofs.Common.{all_differing, arith, length, length-set, refl, rules, ◌<◌, ◌∙◌, ◌≡◌}
 use Rattle.pac_picture.proofs.Layers.{row-step, made-rest, sum-none, sum-step, drawn-all, layer-is}
 use Rattle.pac_picture.proofs.layer.Layer.refresh_all.Goals as goal
 

@@ -1,10 +1,6 @@
-use Rattle.std.proofs.Common.{◌≡◌, ◌<◌, ◌≤◌, ◌*◌, ℕ, length}
-use Rattle.std.specs.Prelude.{sum}
-use Rattle.pac_num.specs.Tabulate.{tabulate}
-use Rattle.pac_picture.specs.Layer.{shadow_at, drawn_from, differing_in}
-use Rattle.pac_picture.proofs.layer.Layer.refresh_all.Given as goal
+use Rattle.pac_picture.proofs.Common.{differing_in, drawn_from, length, shadow_at, sum, tabulate, ℕ, ◌*◌, ◌<◌, ◌≡◌, ◌≤◌}
 
-abbrev pub invariant-loop-row : goal.invariant-loop-row
+abbrev pub invariant-loop-row : Rattle.pac_picture.proofs.layer.Layer.refresh_all.Given.invariant-loop-row
 invariant-loop-row l = record {
   high : 0 < l.row → length l.self.shadows ≡ 28;
   roms : l.self.roms ≡ l.initial.self.roms;

@@ -1,6 +1,4 @@
-use Rattle.std.proofs.Common.{ap}
-use Rattle.pac_picture.specs.LayerProofs.{LayerState}
-use Rattle.pac_picture.specs.State.{palette_of}
+use Rattle.pac_picture.proofs.Common.{LayerState, ap, palette_of}
 use Rattle.pac_picture.proofs.Places.{length-is}
 use Rattle.pac_picture.proofs.Stale.{made-are-stale}
 use Rattle.pac_picture.proofs.CleanLines.{none-clean}

@@ -1,5 +1,4 @@
-use Rattle.std.proofs.Common.{ap}
-use Rattle.pac_picture.specs.LayerProofs.{LayerState}
+use Rattle.pac_picture.proofs.Common.{LayerState, ap}
 use Rattle.pac_picture.proofs.Stale.{made-are-stale}
 use Rattle.pac_picture.proofs.CleanLines.{stale-clean}
 use Rattle.pac_picture.proofs.picture.Picture.set_stale.Goals as goal

@@ -1,4 +1,2 @@
-use Rattle.pac_picture.proofs.screen.Screen.boxes_on.Goals as goal
-
-pub returns : goal.returns
+pub returns : Rattle.pac_picture.proofs.screen.Screen.boxes_on.Goals.returns
 returns c = rw (← c.self.view_is) c.boxes_at.ensures

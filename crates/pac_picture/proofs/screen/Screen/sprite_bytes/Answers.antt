@@ -1,8 +1,7 @@
 use Rattle.std.proofs.Common.{refl}
 use Rattle.pac_picture.proofs.Alike.{all-sixteen}
-use Rattle.pac_picture.proofs.screen.Screen.sprite_bytes.Goals as goal
 
-pub returns : goal.returns
+pub returns : Rattle.pac_picture.proofs.screen.Screen.sprite_bytes.Goals.returns
 returns c =
     rw (
       ← c.self.view_is,

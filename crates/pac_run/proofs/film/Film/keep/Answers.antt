@@ -1,10 +1,6 @@
-use Rattle.std.proofs.Common.{ℤ, refl, subst, w16}
-use Rattle.std.proofs.lemmas.Int.{to_z-of_z}
-use Rattle.pac_media.specs.Samples.{sample_text}
-use Rattle.pac_media.specs.Sound.{Gains}
-use Rattle.pac_run.proofs.film.Film.keep.Goals as goal
+use Rattle.pac_run.proofs.Common.{Gains, refl, sample_text, subst, to_z-of_z, w16, ℤ}
 
-pub returns-clause-took : goal.returns-clause-took
+pub returns-clause-took : Rattle.pac_run.proofs.film.Film.keep.Goals.returns-clause-took
 returns-clause-took g c = record {
   frames = refl;
   wave = subst (λ (sample : ℤ). Gains g.W.Out.took c.args.self.now.wave (sample_text sample) c.keep.new.self)

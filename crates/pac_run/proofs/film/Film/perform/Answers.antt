@@ -1,6 +1,4 @@
-use Rattle.std.proofs.Common.{refl, arith}
-use Rattle.pac_run.specs.Playing.{played}
-use Rattle.pac_run.specs.Recorded.{reel}
+use Rattle.pac_run.proofs.Common.{arith, played, reel, refl}
 use Rattle.pac_run.proofs.Played.{at-refusal, at-text, broke-off, ended, held-up}
 use Rattle.pac_run.proofs.film.Film.perform.Goals as goal
 

@@ -1,10 +1,6 @@
-use Rattle.std.proofs.Common.{ℤ, refl, subst, w16}
-use Rattle.std.proofs.lemmas.Int.{to_z-of_z}
-use Rattle.pac_media.specs.Samples.{sample_text}
-use Rattle.pac_media.specs.Sound.{Gains}
-use Rattle.pac_run.proofs.film.FilmSink.sample.Goals as goal
+use Rattle.pac_run.proofs.Common.{Gains, refl, sample_text, subst, to_z-of_z, w16, ℤ}
 
-pub returns-in-Ok : goal.returns-in-Ok
+pub returns-in-Ok : Rattle.pac_run.proofs.film.FilmSink.sample.Goals.returns-in-Ok
 returns-in-Ok g c = record {
   frames = refl;
   wave = subst (λ (sample : ℤ). Gains g.W.Out.took c.args.self.now.wave (sample_text sample) c.put.new.self)

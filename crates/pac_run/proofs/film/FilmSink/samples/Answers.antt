@@ -1,13 +1,8 @@
-use Rattle.std.proofs.Common.{◌≡◌, ◌∙◌, get_or, pos, arith, rules}
-use Rattle.std.proofs.lemmas.Int.{to_z-of_z}
-use Rattle.std.proofs.lemmas.List.{get_or_default}
+use Rattle.pac_run.proofs.Common.{arith, film_took, get_or, get_or_default, pos, rules, to_z-of_z, took-more, ◌∙◌, ◌≡◌}
 use mir.Syntax.{w16}
 use mir.Val.{to_z, of_z}
-use Rattle.pac_board_course.proofs.Sinks.{took-more}
-use Rattle.pac_run.specs.Films.{film_took}
-use Rattle.pac_run.proofs.film.FilmSink.samples.Goals as goal
 
-pub loop-sample-preserved : goal.loop-sample-preserved
+pub loop-sample-preserved : Rattle.pac_run.proofs.film.FilmSink.samples.Goals.loop-sample-preserved
 loop-sample-preserved g c =
     let samples = c.args.samples.now in
     let i = c.loop-sample.sample-index in

@@ -1,7 +1,4 @@
-use Rattle.std.proofs.Common.{◌≡◌, ◌∙◌, ap, arith, rules}
-use Rattle.pac_board_course.proofs.Taken.{refused-among}
-use Rattle.pac_board_course.specs.Course.{CourseValue, way_on}
-use Rattle.pac_board_course.specs.State.{BoardValue}
+use Rattle.pac_run.proofs.Common.{BoardValue, CourseValue, ap, arith, refused-among, rules, way_on, ◌∙◌, ◌≡◌}
 use Rattle.pac_run.proofs.Traced.{is-near}
 use Rattle.pac_run.proofs.play.CoursePlays.play.Goals as goal
 

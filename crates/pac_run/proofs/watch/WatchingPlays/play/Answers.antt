@@ -1,7 +1,4 @@
-use Rattle.std.proofs.Common.{◌∙◌, sym, rules}
-use Rattle.std.specs.Str.Lines.{lines}
-use Rattle.pac_board_course.specs.SinksLaws.{by}
-use Rattle.pac_run.specs.Run.{writing}
+use Rattle.pac_run.proofs.Common.{by, lines, rules, sym, writing, ◌∙◌}
 use Rattle.pac_run.proofs.Watching.{of-session}
 use Rattle.pac_run.proofs.watch.WatchingPlays.play.Goals as goal
 

@@ -4,9 +4,8 @@ use mir.Syntax.{w16}
 use mir.Val.{to_z, of_z}
 use Rattle.pac_wave.specs.Wave.{Accumulators, accumulator, accumulators_after, sound_sample}
 use Rattle.pac_wave.proofs.Batch.{more-samples, more-voices}
-use Rattle.pac_wave.proofs.positions.Positions.fill.Goals as goal
 
-pub loop-sample-preserved : goal.loop-sample-preserved
+pub loop-sample-preserved : Rattle.pac_wave.proofs.positions.Positions.fill.Goals.loop-sample-preserved
 loop-sample-preserved c =
     let prom = c.args.settings.now.prom in
     let registers = c.args.settings.now.registers in
