@@ -424,12 +424,15 @@ async function outside(page, script) {
     row('a link has the source and what was played in it', (await linked.value('studio.editor.text')) === source
         && (await linked.value('studio.session.tape.length')) > 0);
     await linked.close();
+    await page.value('studio.session.isWhole()'); // so that no replay draws between this look and the next
     const shown = await page.canvas(), game = await page.saved("document.getElementById('publish').click()"), file = path.join(FOLDER, 'mine.html');
+    const frames = (await page.value('studio.session.run.frame')) === 60 ? 61 : 60; // after which the game shows another picture than the studio
     writeFileSync(file, game.bytes);
     const alone = await opened(BROWSER, pathToFileURL(file).href);
     await alone.value('game.loop.pause()');
-    const first = await alone.value('(() => { const { game: it } = game; it.board.begin(it.roms); for (let frame = 0; frame < 60; frame++) { it.board.hold(it.masks[frame]); it.board.run(16500); } it.show(); return it.masks.length; })()');
-    const wanted = played(source, scriptTo(script.toString(), 60));
+    const first = await alone.value('(() => { const { game: it } = game; it.board.begin(it.roms); for (let frame = 0; frame < ' + frames
+        + '; frame++) { it.board.hold(it.masks[frame]); it.board.run(16500); } it.show(); return it.masks.length; })()');
+    const wanted = played(source, scriptTo(script.toString(), frames));
     row('a published game plays from file://, alone', first > 0 && wanted.rgba.equals(await alone.canvas()) && alone.faults.length === 0,
         alone.faults.join('\n'));
     const poster = /<img id="poster" class="poster" alt="" src="(data:image\/png;base64,[\w+/=]*)">/.exec(game.bytes.toString())?.[1];
