@@ -1,4 +1,4 @@
-"""The crates that are C libraries, built by the kit: shared by hosts/build and hosts/web/build."""
+"""The crates that are C libraries, built by the kit: shared by hosts/build, hosts/aarch64 and tools/check/built-again."""
 import contextlib
 import os
 import pathlib
@@ -14,7 +14,7 @@ import time
 HERE = pathlib.Path(__file__).resolve().parent
 ROOT = HERE.parent
 OUT = ROOT / "hosts/out"
-KEPT = OUT / "checked"  # what the kit's checks of each crate keep: the library for C and the module for a page rest on the same proofs
+KEPT = OUT / "checked"  # what the kit's checks of each crate keep: the library of each processor rests on the same proofs
 LINE = re.compile(r"(\w+)( +staticlib)?(?: +[\w=]+)*: *(.*)")
 TOLD = 2  # seconds between two lines about what goes on
 AFTER, BESIDE = "--after-ci", "--beside-ci"  # the words that say that `rt ci` has just proved these very files, or is proving them
@@ -98,12 +98,11 @@ def kit():
     return pathlib.Path(shutil.which("rt") or "rt").resolve().parent.parent
 
 
-def lay_kit(flags, to, kept, target="", edit=None):
-    """Lays a copy of the kit into a folder, its files by links, whose C compiler gets these flags too, and answers the copy's `rt`.
+def lay_kit(to, kept, target=""):
+    """Lays a copy of the kit into a folder, its files by links, and answers the copy's `rt`.
 
-    The copy proves the same, and hands the compiler the same program, as LLVM's bitcode, which is kept in a file; the flags say which
-    instructions of the processor it may use, and a script may edit the bitcode before. A target is another processor for which the copy checks and compiles: `rattle` knows it, but `rt`
-    hands on none besides a page's.
+    The copy proves the same, and hands its C compiler the same program, as LLVM's bitcode, which is kept in a file. A target is another
+    processor for which the copy checks and compiles: `rattle` knows it, but `rt` hands on none.
     """
     whole, compiler = kit(), "toolchain/bin/clang"
     for file in [*whole.iterdir(), *(whole / "bin").iterdir(), *(whole / "toolchain").iterdir(), *(whole / "toolchain/bin").iterdir()]:
@@ -118,19 +117,16 @@ def lay_kit(flags, to, kept, target="", edit=None):
         elif str(name) not in ("bin", "toolchain", "toolchain/bin", compiler):
             (to / name).symlink_to(file)
     keep = f"[ ! -f module.bc ] || cp module.bc {shlex.quote(str(kept))}"
-    clang = shlex.quote(str(whole / compiler))
-    edited = f"[ ! -f module.bc ] || {shlex.join([sys.executable, str(edit)])} {clang} module.bc || exit" if edit else ":"
-    (to / compiler).write_text(f'#!/bin/sh\n{keep}\n{edited}\nexec {clang} "$@" {shlex.join(flags)}\n')
+    (to / compiler).write_text(f'#!/bin/sh\n{keep}\nexec {shlex.quote(str(whole / compiler))} "$@"\n')
     (to / compiler).chmod(0o755)
     return to / "bin/rt"
 
 
-def run(rt, folder, *words, declaring=""):
-    """Runs `rt`, or hosts/anew, with these words in the folder of a crate, over what is proved below it, and tells how far it is; ends where it
-    fails. The crates that are named as declaring may declare functions of C."""
+def run(rt, folder, *words):
+    """Runs `rt` with these words in the folder of a crate, over what is proved below it, and tells how far it is; ends where it fails."""
     begun, command = time.monotonic(), f"rt {words[0]}"
     with tempfile.TemporaryFile("w+") as said:
-        with subprocess.Popen([rt, *words], cwd=folder, env=os.environ | {"RT_ALLOW_C": declaring}, stdout=said, stderr=subprocess.STDOUT) as process:
+        with subprocess.Popen([rt, *words], cwd=folder, stdout=said, stderr=subprocess.STDOUT) as process:
             while process.poll() is None:
                 with contextlib.suppress(subprocess.TimeoutExpired):
                     process.wait(TOLD)
@@ -145,41 +141,35 @@ def text_of(file):
     return os.pread(file.fileno(), os.fstat(file.fileno()).st_size, 0).decode(errors="replace")
 
 
-def keep(place, crate, built):
+def keep(crate, built):
     """Keeps what a check of a crate has left, as one file: `rt ci` refuses a tree in which a .rt file lies where no check reads it."""
-    (KEPT / place).mkdir(parents=True, exist_ok=True)
+    KEPT.mkdir(parents=True, exist_ok=True)
     with tempfile.TemporaryDirectory(prefix=".kept-", dir=KEPT) as room:  # (another process may be taking what was kept before)
         with tarfile.open(f"{room}/tar", "w") as tar:
-            for part in ("incremental", "rlib"):
-                if (built / part).is_dir():
-                    tar.add(built / part, part)
-        os.replace(f"{room}/tar", KEPT / place / f"{crate}.tar")
+            if (built / "incremental").is_dir():
+                tar.add(built / "incremental", "incremental")
+        os.replace(f"{room}/tar", KEPT / f"{crate}.tar")
 
 
-def take_kept(place, crate, built):
+def take_kept(crate, built):
     """Lays what was kept of a crate into a folder, if anything was."""
-    file = KEPT / place / f"{crate}.tar"
+    file = KEPT / f"{crate}.tar"
     if file.is_file():
         with tarfile.open(file) as tar:
             tar.extractall(built)
 
 
 @contextlib.contextmanager
-def laid(table, name, kind, proof, swapped="", lay=None):
+def laid(table, name, kind, proof):
     """Lays a crate, as one of this kind, and all below it into another folder, which is there as long as it's needed: its crates.txt says which
-    kind it is, and the repository is left as it is. A crate that is swapped is laid by a call, which is handed the kit and a folder and answers
-    the libraries that it uses."""
+    kind it is, and the repository is left as it is."""
     below = crates_below(table, name)
-    same = {crate for crate in below - {swapped} if swapped not in crates_below(table, crate)}
-    proof.wait(same)
+    proof.wait(below)
     with tempfile.TemporaryDirectory(prefix="hosts-") as room:
         folder = pathlib.Path(room).resolve()
-        for crate in [*below - {swapped}, name]:
-            lay_crate(crate, folder / "crates" / crate, crate in same)
-        uses = {crate: " ".join(table[crate][1]) for crate in table if crate in below}
-        if swapped:
-            uses[swapped] = lay(kit(), folder / "crates" / swapped)
-        lines = [f"{crate}: {uses[crate]}" for crate in uses]
+        for crate in [*below, name]:
+            lay_crate(crate, folder / "crates" / crate)
+        lines = [f"{crate}: {' '.join(table[crate][1])}" for crate in table if crate in below]
         (folder / "crates.txt").write_text("\n".join([*lines, f"{f'{name} {kind}'.strip()}: {' '.join(table[name][1])}", ""]))
         shutil.copy(ROOT / "HANDLES", folder / "HANDLES")
         if proof.is_of_ci:
@@ -192,33 +182,22 @@ def jobs(proof):
     return ["--jobs", "1"] if proof.is_of_ci else []
 
 
-def build(name, kind, file, to, proof, flags=(), swapped="", lay=None, target="", edit=None):
-    """Builds a library as a crate of this kind, in a copy of it and of all below it, and takes the file that it leaves.
+def build(name, to, proof, target=""):
+    """Builds a static library in a copy of it and of all below it, and takes the file that it leaves.
 
-    The flags are for the compiler, and the script for the bitcode that it gets. What an earlier build of either kind has checked, and nothing
-    has changed since, isn't checked again. Beside the file, with the end .bc, stands the bitcode of which the compiler made it. A crate that is swapped may declare functions of C, and all
-    crates above it are proved over it there, in the gate by hosts/anew. A target is that of another processor.
+    What an earlier build has checked, and nothing has changed since, isn't checked again. Beside the file, with the end .bc, stands the bitcode
+    of which the compiler made it. A target is that of another processor.
     """
     table = crates()
     if not table.get(name, (False, []))[0]:
         sys.exit(f"crates.txt has no static library {name}")
-    above = {crate for crate in crates_below(table, name) if swapped in crates_below(table, crate)}
-    with laid(table, name, kind, proof, swapped, lay) as folder:
-        crates_kept, place = [*above, *([swapped] if swapped else []), name], f"{name}-{swapped}" if swapped else name
-        is_anew = bool(swapped) and proof.is_of_ci
-        place += "-anew" if is_anew else ""  # (what hosts/anew builds stands on nothing that another check has kept)
-        for crate in crates_kept:
-            built = folder / "crates" / crate / "out"
-            shutil.rmtree(built, ignore_errors=True)  # (what was proved over the crate that was swapped isn't so here)
-            take_kept(place, crate, built)
-        for crate in [it for it in table if is_anew and it in {swapped, *above}]:
-            run(HERE / "anew", folder / "crates" / crate, crate, declaring=swapped)
+    with laid(table, name, "staticlib", proof) as folder:
+        crate = folder / "crates" / name
+        take_kept(name, crate / "out")
         (OUT / to).parent.mkdir(parents=True, exist_ok=True)
-        rt = lay_kit(flags, folder / "kit", (OUT / to).with_suffix(".bc"), target, edit)
-        run(rt, folder / "crates" / name, "lib", *jobs(proof), declaring=swapped)
-        shutil.copy(folder / "crates" / name / "out" / file.format(name), OUT / to)
-        for crate in crates_kept:
-            keep(place, crate, folder / "crates" / crate / "out")
+        run(lay_kit(folder / "kit", (OUT / to).with_suffix(".bc"), target), crate, "lib", *jobs(proof))
+        shutil.copy(crate / f"out/lib{name}.a", OUT / to)
+        keep(name, crate / "out")
     print(f"{OUT / to}: {(OUT / to).stat().st_size:,} bytes", flush=True)
 
 

@@ -7,7 +7,7 @@ gdb's own way to find them ends gdb itself at a step, a write or `backtrace` (13
 there is none, the calls end.
 """
 # (only gdb has its module, and mypy takes this folder for it)
-# mypy: disable-error-code="attr-defined,import,misc,name-defined"
+# mypy: disable-error-code="attr-defined,import,index,misc,name-defined"
 from typing import NamedTuple
 
 import gdb  # pylint: disable=import-error
