@@ -113,21 +113,12 @@ def rust_uses(below: Below, source: house.Source, text: str) -> list[str]:
     known = {ref.name for ref in below.whole.types_in(text, source)}
     for match in USE.finditer("\n".join(source.lines)):
         root = match[1].split("::")[0]
-        if root in ("crate", "self", "super"):
+        if root in ("crate", "self", "super", *below.whole.crates):
             continue
         for name in re.findall(r"\w+", match[2]):
-            path = handed_on(below, root, name) if root in below.whole.crates else match[1]
-            if path and name not in known and name != "Model" and re.search(rf"\b{name}\b", text):
-                found.append(f"use {path}{name};")
+            if name not in known and name != "Model" and re.search(rf"\b{name}\b", text):
+                found.append(f"use {match[1]}{name};")
     return list(dict.fromkeys(found))
-
-
-def handed_on(below: Below, crate: str, name: str) -> str | None:
-    """Where the kit has what a crate of ours hands on under its own name, as pac_heap does the allocator; none where that is no name of the kit's."""
-    for match in USE.finditer((below.whole.root / "crates" / crate / "src/lib.rt").read_text()):
-        if match[0].startswith("pub use std::") and name in re.findall(r"\w+", match[2]):
-            return match[1]
-    return None
 
 
 def constants(below: Below, source: house.Source, text: str) -> list[str]:

@@ -17,7 +17,7 @@ use crate::lines::{MOST_LINES, has_too_many_lines};
 use crate::phase1::lay_out;
 use crate::phase2::fill_in;
 use pac_asm_program::{Line, Program, Symbols, apart_items_lie, rom_of};
-use pac_heap::Global;
+use std::alloc::Global;
 
 /// The program of a source, or its first fault: A7 before all others; then the first line that has a fault of the
 /// first phase, A1 to A6, A12 to A14 or A10 where a value is needed at once; then the first line that has one of the

@@ -8,8 +8,7 @@ ghost use Rattle.pac_asm.specs.Layouts.{ArePlacesApart, IsFreePlace, cells_below
 ghost use Rattle.pac_asm.specs.Standings.{overlaps};
 
 use crate::place::{LineLayout, Span};
-use pac_heap::Global;
-use std::alloc::AllocError;
+use std::alloc::{AllocError, Global};
 use std::marker::Model;
 
 /// What became of the lines so far, with a mark for each byte of the ROM that one of them has. Clauses see the

@@ -12,8 +12,8 @@ ghost use Rattle.pac_asm.specs.Standings.{first_standing};
 use crate::fault::{AsmCode, AsmError, LineError};
 use crate::lines::first_unclosed;
 use crate::standing::Standing;
-use pac_heap::Global;
 use pac_lex::first_line;
+use std::alloc::Global;
 
 /// What all lines of a source leave, or its first fault of the first phase.
 pub(crate) fn lay_out(alloc: Global, source: &[u8]) -> Result<Standing, AsmError>

@@ -21,8 +21,8 @@ use crate::fault::{AsmCode, AsmError, LineError};
 use crate::place::{LineLayout, Span};
 use pac_asm_line::{Statement, form};
 use pac_asm_program::{Item, Line, Symbols};
-use pac_heap::Global;
 use pac_lex::{first_line, tokens};
+use std::alloc::Global;
 
 /// What all lines put into the program, at the places that the first phase gave them.
 pub(crate) fn fill_in(

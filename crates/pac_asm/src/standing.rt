@@ -19,8 +19,7 @@ use crate::place::{LineLayout, Span};
 use pac_asm_line::{Conditional, Expression};
 use pac_asm_program::Symbols;
 use pac_expr::{SymbolLookup as _, ValueError};
-use pac_heap::Global;
-use std::alloc::AllocError;
+use std::alloc::{AllocError, Global};
 use std::marker::Model;
 
 /// The bytes of the program ROM.

@@ -15,8 +15,8 @@ use crate::fault::{AsmCode, LineError};
 use crate::place::LineLayout;
 use crate::standing::Standing;
 use pac_asm_line::{Conditional, Expression, Form, Statement, conditional_of, form};
-use pac_heap::Global;
 use pac_lex::{Token, tokens};
+use std::alloc::Global;
 
 impl Standing {
     /// Takes a line by itself, whatever stands below it.

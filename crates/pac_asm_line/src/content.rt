@@ -22,10 +22,9 @@ use crate::statement::Statement;
 use pac_asm_operation::{OperationFault, next_part};
 use pac_asm_program::Content;
 use pac_expr::SymbolLookup;
-use pac_heap::Global;
 use pac_lex::{Token, characters};
 use pac_table::Instr;
-use std::alloc::AllocError;
+use std::alloc::{AllocError, Global};
 
 impl<'t, 'a> Statement<'t, 'a> {
     /// What the statement places, if it places something, where `here` is the address of the line and `size`

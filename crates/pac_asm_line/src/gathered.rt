@@ -8,10 +8,9 @@ ghost use Rattle.pac_asm_line.specs.Contents.{joined_bytes, map_unless_fault};
 ghost use Rattle.pac_asm_line.specs.Gathered.{ContentGives, gathered_so_far};
 
 use pac_asm_operation::OperationFault;
-use pac_heap::Global;
 use pac_lex::characters;
 use pac_num::{high_byte, low_byte};
-use std::alloc::{AllocError, AllocFailed};
+use std::alloc::{AllocError, AllocFailed, Global};
 
 /// Why a line has no content.
 #[derive(Clone, Copy, Debug, PartialEq, Eq)]

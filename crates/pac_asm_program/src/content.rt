@@ -4,8 +4,8 @@ ghost use Rattle.std.specs.Prelude.{◌≡◌};
 ghost use Rattle.pac_code.specs.Items.{Code, Data, bytes_in};
 
 use pac_code::encode;
-use pac_heap::Global;
 use pac_table::Instr;
+use std::alloc::Global;
 use std::marker::Model;
 
 /// An instruction, or bytes that are none.

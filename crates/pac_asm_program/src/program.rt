@@ -5,7 +5,7 @@ ghost use Rattle.pac_asm_program.specs.Programs.{rom_size};
 
 use crate::line::Line;
 use crate::symbols::Symbols;
-use pac_heap::Global;
+use std::alloc::Global;
 use std::marker::Model;
 
 /// What a source becomes: an entry for each of its lines, the symbols, and the program ROM.

@@ -8,8 +8,7 @@ ghost use Rattle.pac_asm_program.specs.RomLaws.{ApartItemsLie};
 ghost use Rattle.pac_asm_program.specs.RomProofs.{IsZeroElsewhere};
 
 use crate::line::{Item, Line};
-use pac_heap::Global;
-use std::alloc::AllocError;
+use std::alloc::{AllocError, Global};
 
 /// The bytes of the program ROM.
 const ROM_SIZE: usize = 16384;

@@ -7,8 +7,7 @@ ghost use Rattle.pac_asm_program.specs.NamesProofs.{AreDistinct};
 
 use crate::seeded::Seeded;
 use indexmap::IndexMap;
-use pac_heap::Global;
-use std::alloc::AllocError;
+use std::alloc::{AllocError, Global};
 use std::marker::Model;
 
 /// Names that stand for numbers, in the order in which they were defined. Small and capital letters differ.

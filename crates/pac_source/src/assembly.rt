@@ -9,11 +9,11 @@ ghost use Rattle.pac_source.specs.Writing.{LeavesText};
 use crate::codes::SourceFault;
 use crate::size::Size;
 use pac_asm::{AsmError, Program, assemble};
-use pac_heap::Global;
 use pac_listing::write_listing;
 use pac_out::buffer::HostBuffer;
 use pac_out::counted::Counted;
 use pac_out::{Out, WriteFault};
+use std::alloc::Global;
 
 /// The bytes of the program ROM.
 const ROM_SIZE: usize = 16_384;

@@ -12,7 +12,7 @@ mod size;
 pub use codes::{PacTold, SourceFault, ToldBytes};
 use codes::{bytes_of, code, told_of};
 pub use instruction::PacText;
-use pac_heap::Global;
+use std::alloc::Global;
 
 /// Assembles a source: the bytes of its program go to `rom`, and its listing to the head of `listing`, whose rest stays. The listing has a
 /// row for each line of the source, with its address and its first four bytes, further rows where a line has more, and then the symbols, as
