@@ -2,7 +2,7 @@
 
 ghost use Rattle.std.specs.Prelude.{◌≡◌, ◌<◌, Some, None, find, option_map, if◌then◌else◌, ◌+◌};
 ghost use Rattle.std.specs.Prelude.{◌/◌, ◌%◌, ◌==◌, ◌&&◌, ◌≤ℤ◌, neg_ℤ, pos, negsuc, unsigned_abs};
-ghost use Rattle.std.specs.Prelude.{true};
+ghost use Rattle.std.specs.Prelude.{true, ℕ};
 ghost use Rattle.std.specs.List.{All};
 ghost use Rattle.pac_table.specs.Instructions.{row_at, row_count};
 ghost use Rattle.pac_table_names.specs.Names.{listed_shapes};
@@ -15,7 +15,7 @@ ghost use Rattle.pac_asm_operation.specs.Kept.{suits_row};
 
 use crate::form::{family_in, fits, row_size};
 use crate::operand::Operand;
-use pac_table::{Instr, NumberKind, Shape, row_numbered};
+use pac_table::{Instr, Name, NumberKind, Shape, row_numbered};
 use pac_table_names::{value_of_name, written};
 
 /// The parts of a code.
@@ -122,18 +122,29 @@ fn with_operand(shape: Shape, next: u32, operand: &Operand<i32>, parts: Parts) -
         (with_operand shape next operand.now (as_instruction parts)) else None) }
 {
     match (shape, operand) {
-        (Shape::FirstField(names), Operand::Named(name)) => Some(Parts {
-            p: value_of_name(names, *name).unwrap_or(0),
-            ..parts
-        }),
-        (Shape::SecondField(names), Operand::Named(name)) => Some(Parts {
-            q: value_of_name(names, *name).unwrap_or(0),
-            ..parts
-        }),
+        (_, Operand::Named(name)) => Some(with_name(shape, *name, parts)),
         (_, Operand::Indexed(_, number)) => with_displacement(i64::from(*number), parts),
         (Shape::AtNumber(kind), Operand::Memory(number)) => with_number(kind, next, *number, parts),
         (Shape::Number(kind), Operand::Value(number)) => with_number(kind, next, *number, parts),
         _ => Some(parts),
+    }
+}
+
+/// The parts with the value of a name in the field that lists it, if one does.
+fn with_name(shape: Shape, name: Name, parts: Parts) -> Parts
+    ensures { (next : ℕ) → as_instruction result
+        ≡ with_operand shape next (Operand.Named name) (as_instruction parts) }
+{
+    match shape {
+        Shape::FirstField(names) => Parts {
+            p: value_of_name(names, name).unwrap_or(0),
+            ..parts
+        },
+        Shape::SecondField(names) => Parts {
+            q: value_of_name(names, name).unwrap_or(0),
+            ..parts
+        },
+        _ => parts,
     }
 }
 

@@ -46,9 +46,8 @@ fn last_operand<'t, 'a>(tokens: &'t [Token<'a>]) -> Option<Operand<&'t [Token<'a
         (slice_split is_comma (views tokens.now))) }
 {
     let (part, rest) = next_part(tokens);
-    let last = operand(part)?;
     match rest {
-        None => Some(last),
+        None => operand(part),
         Some(_) => None,
     }
 }

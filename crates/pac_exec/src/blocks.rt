@@ -2,7 +2,7 @@
 
 ghost use Rattle.std.specs.Prelude.{◌≡◌, [], ◌∷◌};
 ghost use Rattle.pac_bus.specs.Action.{Write, Output};
-ghost use Rattle.pac_exec.specs.Registers.{hl};
+ghost use Rattle.pac_exec.specs.Registers.{hl, with_bc};
 ghost use Rattle.pac_exec.specs.Blocks as blocks;
 ghost use Rattle.pac_exec.specs.BlocksProofs.{DoesIteration};
 ghost use Rattle.pac_exec.specs.TransitionProofs.{DoesTransition};
@@ -24,17 +24,26 @@ fn moved(direction: Direction, address: u16) -> u16
     }
 }
 
+/// Moves HL to the next cell and counts a byte in BC; how many are left.
+#[inline]
+fn count_cell(direction: Direction, regs: &mut Regs) -> u16
+    ensures regs { regs.new ≡ with_bc (blocks.hl_moved direction regs.old) result }
+    ensures left { result ≡ blocks.bc_left regs.old }
+{
+    let count = decrement_word(regs.bc());
+    regs.set_hl(moved(direction, regs.hl()));
+    regs.set_bc(count);
+    count
+}
+
 /// One byte of LDI or LDD; whether another one follows where the instruction repeats.
 fn copy<B: Bus>(direction: Direction, regs: &mut Regs, bus: &mut B) -> bool
     ensures { DoesIteration B.after (blocks.copy_iteration direction regs.old (B.byte_at bus.old))
         bus.old regs.new bus.new result }
 {
-    let count = decrement_word(regs.bc());
-    let byte = bus.read(regs.hl());
-    bus.write(regs.de(), byte);
-    regs.set_hl(moved(direction, regs.hl()));
+    bus.write(regs.de(), bus.read(regs.hl()));
     regs.set_de(moved(direction, regs.de()));
-    regs.set_bc(count);
+    let count = count_cell(direction, regs);
     regs.f = pac_alu::copy_flags(count, regs.f);
     count != 0
 }
@@ -44,10 +53,8 @@ fn compare<B: Bus>(direction: Direction, regs: &mut Regs, bus: &B) -> bool
     ensures { DoesIteration B.after (blocks.compare_iteration direction regs.old
         (B.byte_at bus.now)) bus.now regs.new bus.now result }
 {
-    let count = decrement_word(regs.bc());
     let byte = bus.read(regs.hl());
-    regs.set_hl(moved(direction, regs.hl()));
-    regs.set_bc(count);
+    let count = count_cell(direction, regs);
     regs.f = pac_alu::search_flags(regs.a, byte, count, regs.f);
     count != 0 && regs.a != byte
 }

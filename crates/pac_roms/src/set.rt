@@ -102,12 +102,43 @@ impl RomSet {
         requires { spec.IsWhole (parts_proofs.parts_of program.now raw.now) }
         ensures { self.new ≡ parts_proofs.parts_of program.now raw.now }
     {
+        self.put_program(program);
+        self.put_shapes(raw.tiles, raw.sprites);
+        self.put_proms(raw.colours, raw.lookup, raw.wave);
+    }
+
+    /// Puts another program in the four ROMs of it.
+    fn put_program(&mut self, program: &[u8])
+        requires { length program.now ≡ spec.program_size }
+        ensures { self.new ≡ record self.old { program = program.now } }
+    {
         self.program.copy_from_slice(program);
-        self.tiles.copy_from_slice(raw.tiles);
-        self.sprites.copy_from_slice(raw.sprites);
-        self.colours.copy_from_slice(raw.colours);
-        self.lookup.copy_from_slice(raw.lookup);
-        self.wave.copy_from_slice(raw.wave);
+    }
+
+    /// Puts other shapes of tiles and sprites in the two ROMs of them.
+    fn put_shapes(&mut self, tiles: &[u8], sprites: &[u8])
+        requires tiles { length tiles.now ≡ spec.tiles_size }
+        requires sprites { length sprites.now ≡ spec.sprites_size }
+        ensures { self.new ≡ record self.old { tiles = tiles.now; sprites = sprites.now } }
+    {
+        self.tiles.copy_from_slice(tiles);
+        self.sprites.copy_from_slice(sprites);
+    }
+
+    /// Puts other bytes in the three PROMs.
+    fn put_proms(&mut self, colours: &[u8], lookup: &[u8], wave: &[u8])
+        requires colours { length colours.now ≡ spec.colour_prom_size }
+        requires lookup { length lookup.now ≡ spec.lookup_prom_size }
+        requires wave { length wave.now ≡ spec.wave_prom_size }
+        ensures { self.new ≡ record self.old {
+          colours = colours.now;
+          lookup = lookup.now;
+          wave = wave.now;
+        } }
+    {
+        self.colours.copy_from_slice(colours);
+        self.lookup.copy_from_slice(lookup);
+        self.wave.copy_from_slice(wave);
     }
 
     /// The program ROM, 16,384 bytes.

@@ -15,20 +15,20 @@ abbrev pub scaled_sample : ℕ → ℕ → ℤ
 scaled_sample sample loudness = pos 64 *ℤ amplified_sample sample loudness
 
 -- 64 times what the sample at a place of a voice's waveform puts into the sound
-abbrev pub scaled_level : (prom registers : List ℕ) → Voice → ℕ → ℤ
+unfoldable pub scaled_level : (prom registers : List ℕ) → Voice → ℕ → ℤ
 scaled_level prom registers voice place =
     scaled_sample (slice_index prom (32 * waveform registers voice + place) % 16) (volume registers voice)
 
 -- these are told beforehand, for each of the 32 places
-abbrev pub AreLevels : (prom registers : List ℕ) → Voice → List ℤ → Type 0
+unfoldable pub AreLevels : (prom registers : List ℕ) → Voice → List ℤ → Type 0
 AreLevels prom registers voice levels =
     (place : ℕ) → place < 32 → slice_index_or levels place (pos 0) ≡ scaled_level prom registers voice place
 
 -- what 4096 times a voice's accumulator grows by
-abbrev pub voice_step : List ℕ → Voice → ℕ
+unfoldable pub voice_step : List ℕ → Voice → ℕ
 voice_step registers voice = 4096 * frequency registers voice
 
-abbrev pub steps_of : List ℕ → Steps
+unfoldable pub steps_of : List ℕ → Steps
 steps_of registers = record {
   first = voice_step registers First;
   second = voice_step registers Second;
@@ -39,5 +39,5 @@ steps_of registers = record {
 abbrev pub IsScaledLevel : ℤ → Type 0
 IsScaledLevel value = (negsuc 7679 ≤ℤ value) × (value ≤ℤ pos 6720)
 
-abbrev pub AreWithin : List ℤ → Type 0
+unfoldable pub AreWithin : List ℤ → Type 0
 AreWithin levels = (place : ℕ) → place < 32 → IsScaledLevel (slice_index_or levels place (pos 0))

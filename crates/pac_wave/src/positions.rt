@@ -94,6 +94,33 @@ impl Positions {
         [self.first / 4096, self.second / 4096, self.third / 4096]
     }
 
+    /// The sound sample where the voices stand.
+    #[inline(always)]
+    #[tactic(auto, unfolding(crate::specs::Settings::scaled_level))]
+    fn sample(&self, settings: &Settings) -> i16
+        ensures sample { result ≡ spec.sound_sample settings.now.prom settings.now.registers
+            (spec.accumulator self.now) true }
+        ensures within { wave_proofs.IsSample result }
+    {
+        mixed(
+            settings.level(Voice::First, self.first / 4096),
+            settings.level(Voice::Second, self.second / 4096),
+            settings.level(Voice::Third, self.third / 4096),
+        )
+    }
+
+    /// Moves each voice on by a sample.
+    #[inline(always)]
+    #[tactic(auto, unfolding(crate::specs::Settings::steps_of))]
+    fn move_on(&mut self, settings: &Settings, steps: &Steps)
+        requires { steps.now ≡ steps_of settings.now.registers }
+        ensures { self.new ≡ spec.accumulators_after settings.now.registers true self.old }
+    {
+        self.first = settings.grown(Voice::First, steps.first, self.first);
+        self.second = settings.grown(Voice::Second, steps.second, self.second);
+        self.third = settings.grown(Voice::Third, steps.third, self.third);
+    }
+
     /// The next sound sample while sound is on, after which the voices move on.
     #[inline(always)]
     pub(crate) fn next(&mut self, settings: &Settings, steps: &Steps) -> i16
@@ -104,14 +131,8 @@ impl Positions {
             settings.now.registers true self.old }
         ensures within { wave_proofs.IsSample result }
     {
-        let sample = mixed(
-            settings.level(Voice::First, self.first / 4096),
-            settings.level(Voice::Second, self.second / 4096),
-            settings.level(Voice::Third, self.third / 4096),
-        );
-        self.first = settings.grown(Voice::First, steps.first, self.first);
-        self.second = settings.grown(Voice::Second, steps.second, self.second);
-        self.third = settings.grown(Voice::Third, steps.third, self.third);
+        let sample = self.sample(settings);
+        self.move_on(settings, steps);
         sample
     }
 

@@ -1,7 +1,7 @@
 //! What the wave PROM and the registers say of the voices, told once for as many samples as they stay the same.
 
 ghost use Rattle.std.specs.Prelude.{◌≡◌, ◌<◌, ◌≤◌, ◌+◌, ◌*◌, ◌/◌, ◌%◌, ℕ, List, true, take, drop};
-ghost use Rattle.std.specs.Prelude.{pos, slice_index, slice_index_or};
+ghost use Rattle.std.specs.Prelude.{pos, negsuc, slice_index, slice_index_or, ◌≤ℤ◌};
 ghost use Rattle.std.specs.Int.{w64, to_le_bytes};
 ghost use Rattle.pac_wave.specs.Settings.{AreLevels, AreWithin, IsScaledLevel, scaled_level};
 ghost use Rattle.pac_wave.specs.Settings.{scaled_sample, voice_step, steps_of};
@@ -28,17 +28,26 @@ fn register(registers: &[u8; 32], place: usize) -> u8
     registers[place] % 16
 }
 
+/// How far a voice's registers are from those of the first voice.
+#[inline]
+fn distance(voice: Voice) -> usize
+    ensures distance { result ≡ 5 * spec.voice_number voice }
+    ensures below { result < 11 }
+{
+    match voice {
+        Voice::First => 0,
+        Voice::Second => 5,
+        Voice::Third => 10,
+    }
+}
+
 /// The number of a voice's waveform, 0 to 7.
 #[inline]
 fn waveform(registers: &[u8; 32], voice: Voice) -> u8
     ensures waveform { result ≡ spec.waveform registers.now voice }
     ensures below { result < 8 }
 {
-    match voice {
-        Voice::First => register(registers, 0x05) % 8,
-        Voice::Second => register(registers, 0x0A) % 8,
-        Voice::Third => register(registers, 0x0F) % 8,
-    }
+    register(registers, 0x05 + distance(voice)) % 8
 }
 
 /// A voice's volume, 0 to 15.
@@ -47,30 +56,37 @@ fn volume(registers: &[u8; 32], voice: Voice) -> u8
     ensures volume { result ≡ spec.volume registers.now voice }
     ensures below { result < 16 }
 {
+    register(registers, 0x15 + distance(voice))
+}
+
+/// The lowest digit of a voice's frequency, which only the first voice has a register for.
+#[inline]
+fn lowest_digit(registers: &[u8; 32], voice: Voice) -> u8
+    ensures digit { result ≡ spec.frequency_digit registers.now voice 0 }
+    ensures below { result < 16 }
+{
     match voice {
-        Voice::First => register(registers, 0x15),
-        Voice::Second => register(registers, 0x1A),
-        Voice::Third => register(registers, 0x1F),
+        Voice::First => register(registers, 0x10),
+        Voice::Second | Voice::Third => 0,
     }
 }
 
-/// A number of five digits of four bits: the lowest, and the registers from a place on.
+/// A number of five digits of four bits: the lowest, and the registers after a place.
 #[inline]
 fn digits(lowest: u8, registers: &[u8; 32], place: usize) -> u32
     requires lowest { lowest < 16 }
-    requires place { place < 29 }
-    ensures digits { result ≡
-        lowest + 16 * spec.register_nibble registers.now place + 256 * spec.register_nibble
-        registers.now (place + 1)
-        + 4096 * spec.register_nibble registers.now (place + 2) + 65536 * spec.register_nibble
-        registers.now (place + 3) }
+    requires place { place < 28 }
+    ensures digits { result ≡ lowest + 16 * spec.register_nibble registers.now (place + 1)
+        + 256 * spec.register_nibble registers.now (place + 2)
+        + 4096 * spec.register_nibble registers.now (place + 3)
+        + 65536 * spec.register_nibble registers.now (place + 4) }
     ensures below { result < spec.accumulator_range }
 {
     u32::from(lowest)
-        + 16 * u32::from(register(registers, place))
-        + 256 * u32::from(register(registers, place + 1))
-        + 4096 * u32::from(register(registers, place + 2))
-        + 65536 * u32::from(register(registers, place + 3))
+        + 16 * u32::from(register(registers, place + 1))
+        + 256 * u32::from(register(registers, place + 2))
+        + 4096 * u32::from(register(registers, place + 3))
+        + 65536 * u32::from(register(registers, place + 4))
 }
 
 /// A voice's frequency, 20 bits.
@@ -79,14 +95,35 @@ fn frequency(registers: &[u8; 32], voice: Voice) -> u32
     ensures frequency { result ≡ spec.frequency registers.now voice }
     ensures below { result < spec.accumulator_range }
 {
-    match voice {
-        Voice::First => digits(register(registers, 0x10), registers, 0x11),
-        Voice::Second => digits(0, registers, 0x16),
-        Voice::Third => digits(0, registers, 0x1B),
-    }
+    digits(
+        lowest_digit(registers, voice),
+        registers,
+        0x10 + distance(voice),
+    )
 }
 
-/// A sample of a waveform, 0 to 15, about its middle 8 and at a volume, 64 times.
+/// What 4096 times a voice's accumulator grows by.
+#[inline]
+#[tactic(auto, unfolding(crate::specs::Settings::voice_step))]
+fn step(registers: &[u8; 32], voice: Voice) -> u32
+    ensures { result ≡ voice_step registers.now voice }
+{
+    4096 * frequency(registers, voice)
+}
+
+/// A sample of a waveform, 0 to 15, about its middle 8 and at a volume.
+#[inline(always)]
+fn amplified(sample: u8, volume: u8) -> i16
+    requires sample { sample < 16 }
+    requires volume { volume < 16 }
+    ensures amplified { result ≡ spec.amplified_sample sample volume }
+    // From -8 * 15 to 7 * 15.
+    ensures within { (negsuc 119 ≤ℤ result) × (result ≤ℤ pos 105) }
+{
+    (i16::from(sample) - 8) * i16::from(volume)
+}
+
+/// The same, as it is added to the sound: 64 times.
 #[inline(always)]
 fn scaled(sample: u8, volume: u8) -> i16
     requires sample { sample < 16 }
@@ -94,11 +131,23 @@ fn scaled(sample: u8, volume: u8) -> i16
     ensures scaled { result ≡ scaled_sample sample volume }
     ensures within { IsScaledLevel result }
 {
-    64 * ((i16::from(sample) - 8) * i16::from(volume))
+    64 * amplified(sample, volume)
+}
+
+/// A sample of the waveform that begins at a place of the wave PROM.
+#[inline(always)]
+fn sample(prom: &[u8; 256], start: usize, place: usize) -> u8
+    requires start { start ≤ 224 }
+    requires place { place < 32 }
+    ensures sample { result ≡ slice_index prom.now (start + place) % 16 }
+    ensures below { result < 16 }
+{
+    prom[start + place] % 16
 }
 
 /// What each sample of a waveform that begins at a place of the wave PROM puts into the sound at a volume.
 #[inline(never)]
+#[tactic(auto, unfolding(crate::specs::Settings::AreWithin))]
 fn levels(prom: &[u8; 256], start: usize, volume: u8) -> [i16; 32]
     requires start { start ≤ 224 }
     requires volume { volume < 16 }
@@ -109,33 +158,44 @@ fn levels(prom: &[u8; 256], start: usize, volume: u8) -> [i16; 32]
 {
     let mut levels = [0; 32];
     for place in 0..32usize {
-        levels[place] = scaled(prom[start + place] % 16, volume);
+        levels[place] = scaled(sample(prom, start, place), volume);
     }
     levels
 }
 
+/// Where a voice's waveform begins in the wave PROM.
+#[inline]
+fn waveform_start(registers: &[u8; 32], voice: Voice) -> usize
+    ensures start { result ≡ 32 * spec.waveform registers.now voice }
+    ensures below { result ≤ 224 }
+{
+    32 * usize::from(waveform(registers, voice))
+}
+
 /// What each sample of a voice's waveform puts into the sound at its volume.
 #[inline]
+#[tactic(auto, unfolding(crate::specs::Settings::AreLevels, crate::specs::Settings::scaled_level))]
 fn read_levels(prom: &[u8; 256], registers: &[u8; 32], voice: Voice) -> [i16; 32]
     ensures levels { AreLevels prom.now registers.now voice result }
     ensures within { AreWithin result }
 {
     levels(
         prom,
-        32 * usize::from(waveform(registers, voice)),
+        waveform_start(registers, voice),
         volume(registers, voice),
     )
 }
 
 /// What the registers say that 4096 times each voice's accumulator grows by.
 #[inline]
+#[tactic(auto, unfolding(crate::specs::Settings::steps_of))]
 fn read_steps(registers: &[u8; 32]) -> Steps
     ensures { result ≡ steps_of registers.now }
 {
     Steps {
-        first: 4096 * frequency(registers, Voice::First),
-        second: 4096 * frequency(registers, Voice::Second),
-        third: 4096 * frequency(registers, Voice::Third),
+        first: step(registers, Voice::First),
+        second: step(registers, Voice::Second),
+        third: step(registers, Voice::Third),
     }
 }
 
@@ -258,24 +318,34 @@ impl Settings {
         self.steps
     }
 
+    /// What each sample of a voice's waveform puts into the sound.
+    #[inline(always)]
+    fn levels_of(&self, voice: Voice) -> &[i16; 32]
+        ensures levels { AreLevels self.now.prom self.now.registers voice result.now }
+        ensures within { AreWithin result.now }
+    {
+        match voice {
+            Voice::First => &self.first,
+            Voice::Second => &self.second,
+            Voice::Third => &self.third,
+        }
+    }
+
     /// What a voice puts into the sound, 64 times.
     #[inline(always)]
+    #[tactic(auto, unfolding(crate::specs::Settings::AreLevels, crate::specs::Settings::AreWithin))]
     pub(crate) fn level(&self, voice: Voice, accumulator: u32) -> i16
         requires { accumulator < spec.accumulator_range }
         ensures level { result ≡ scaled_level self.now.prom self.now.registers
             voice (accumulator / 32768) }
         ensures within { IsScaledLevel result }
     {
-        let place = (accumulator / 32768) as usize;
-        match voice {
-            Voice::First => level_at(&self.first, place),
-            Voice::Second => level_at(&self.second, place),
-            Voice::Third => level_at(&self.third, place),
-        }
+        level_at(self.levels_of(voice), (accumulator / 32768) as usize)
     }
 
     /// 4096 times an accumulator, a sample later: so it has all the bits of its word, and no sum needs a mask.
     #[inline(always)]
+    #[tactic(auto, unfolding(crate::specs::Settings::voice_step))]
     pub(crate) fn grown(&self, voice: Voice, step: u32, position: u32) -> u32
         requires step { step ≡ voice_step self.now.registers voice }
         requires whole { position % 4096 ≡ 0 }
