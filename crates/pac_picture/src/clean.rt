@@ -67,7 +67,16 @@ impl Clean {
             AreSameOn line (seen_sprite (sprites_at self.now.sprites line) k)
             (sprite_at screen.now k) }
     {
-        self.lines[line as usize] && screen.has_sprites_on(line, &self.sprites[line as usize])
+        self.lines[line as usize] && screen.has_sprites_on(line, self.sprites_of(line))
+    }
+
+    /// The sprites that a line was composed with.
+    #[inline(always)]
+    fn sprites_of(&self, line: u8) -> &SpriteBytes
+        requires { line < tile.height }
+        ensures { result.now ≡ sprites_at self.now.sprites line }
+    {
+        &self.sprites[line as usize]
     }
 
     /// Takes a line that is composed with these sprites.
@@ -121,7 +130,5 @@ fn forget(lines: &mut [bool; HEIGHT as usize], row: u8)
     ensures row { (line : ℕ) → line / 8 ≡ row → slice_index_or lines.new line false ≡ false }
 {
     let first = 8 * row as usize;
-    for line in 0..8usize {
-        lines[first + line] = false;
-    }
+    lines[first..first + 8].fill(false);
 }

@@ -78,6 +78,17 @@ fn tile_values(bytes: u8x16, pair: u8) -> u8x16
     values(picked(bytes, tile_places(pair)))
 }
 
+/// The place in the ROM of the byte that has pixel (x, y) of a sprite.
+#[inline(always)]
+fn pixel_place(code: u8, x: usize, y: u8) -> usize
+    requires code { code < sprites_proofs.sprite_codes }
+    requires y { y < 16 }
+    ensures place { result ≡ 64 * code + sprite.pixel_byte_index x y }
+    ensures inside { result < sprites_proofs.sprite_rom_size }
+{
+    64 * code as usize + 8 * ((x / 4 + 1) % 4) + (y % 8) as usize + 32 * (y / 8) as usize
+}
+
 /// The bytes that have the pixels on line y of a sprite, from left to right.
 #[inline]
 fn sprite_bytes(rom: &[u8; 4096], code: u8, y: u8) -> [u8; 16]
@@ -86,10 +97,9 @@ fn sprite_bytes(rom: &[u8; 4096], code: u8, y: u8) -> [u8; 16]
     ensures { (x : ℕ) → x < 16 → slice_index result x
         ≡ slice_index rom.now (64 * code + sprite.pixel_byte_index x y) }
 {
-    let start = 64 * code as usize + (y % 8) as usize + 32 * (y / 8) as usize;
     let mut bytes = [0; 16];
     for x in 0..16usize {
-        bytes[x] = rom[start + 8 * ((x / 4 + 1) % 4)];
+        bytes[x] = rom[pixel_place(code, x, y)];
     }
     bytes
 }

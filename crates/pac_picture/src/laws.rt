@@ -20,6 +20,15 @@ pub(crate) fn sixteen(now: &[u8], from: usize, shadow: &[u8], start: usize) -> u
         .to_bitmask()
 }
 
+/// Whether one of sixteen bits is set.
+#[inline(always)]
+fn is_set(bits: u64, k: usize) -> bool
+    requires { k < 16 }
+    ensures { result ≡ (bits / 2 ^ k % 2 == 1) }
+{
+    (bits >> k) % 2 == 1
+}
+
 /// Writes sixteen bits to a mask, from a place on.
 #[inline]
 fn spread(bits: u64, mask: &mut [bool], start: usize)
@@ -30,7 +39,7 @@ fn spread(bits: u64, mask: &mut [bool], start: usize)
         ≡ slice_index_or mask.old k false }
 {
     for k in 0..16usize {
-        mask[start + k] = (bits >> k) % 2 == 1;
+        mask[start + k] = is_set(bits, k);
     }
 }
 

@@ -1,8 +1,8 @@
 //! The layer of tiles: each row of cells as it was last drawn, beside the bytes that it was drawn from.
 
-ghost use Rattle.std.specs.Prelude.{◌≡◌, ◌<◌, ◌≤◌, ◌-◌, ◌/◌, ◌%◌, ◌||◌, ℕ, true};
-ghost use Rattle.std.specs.Prelude.{false, if◌then◌else◌, [], length, map, count_by, slice_index};
-ghost use Rattle.std.specs.Prelude.{slice_index_or, slice_set};
+ghost use Rattle.std.specs.Prelude.{◌≡◌, ◌<◌, ◌≤◌, ◌-◌, ◌/◌, ◌%◌, ◌==◌, ◌||◌, ℕ, true};
+ghost use Rattle.std.specs.Prelude.{false, not, if◌then◌else◌, [], length, map, count_by};
+ghost use Rattle.std.specs.Prelude.{slice_index, slice_index_or, slice_set};
 ghost use Rattle.pac_num.specs.Tabulate.{tabulate};
 ghost use Rattle.pac_tiles.specs.Tiles as tile;
 ghost use Rattle.pac_tiles.specs.TilesLaws as tiles_laws;
@@ -34,6 +34,17 @@ fn either(one: &[bool; COLUMNS], other: &[bool; COLUMNS]) -> [bool; COLUMNS]
     any
 }
 
+/// At which cells of a row the bytes differ from those that were there.
+#[inline]
+fn differing_bytes(bytes: &RowBytes, shadow: &RowBytes) -> [bool; COLUMNS]
+    ensures { (k : ℕ) → k < tiles_laws.columns → slice_index_or result k false
+        ≡ not (slice_index bytes.now k == slice_index shadow.now k) }
+{
+    let mut differ = [false; COLUMNS];
+    changed(bytes, shadow, &mut differ);
+    differ
+}
+
 /// Which cells of a row differ from these bytes, where not all of them do.
 #[inline]
 fn differing(shadow: &Shadow, tiles: &RowBytes, colours: &RowBytes) -> [bool; COLUMNS]
@@ -41,11 +52,10 @@ fn differing(shadow: &Shadow, tiles: &RowBytes, colours: &RowBytes) -> [bool; CO
     ensures { (column : ℕ) → column < tiles_laws.columns → slice_index_or result column false
         ≡ cell_differs shadow.now tiles.now colours.now column }
 {
-    let mut by_tile = [false; COLUMNS];
-    let mut by_colour = [false; COLUMNS];
-    changed(tiles, &shadow.tiles, &mut by_tile);
-    changed(colours, &shadow.colours, &mut by_colour);
-    either(&by_tile, &by_colour)
+    either(
+        &differing_bytes(tiles, &shadow.tiles),
+        &differing_bytes(colours, &shadow.colours),
+    )
 }
 
 /// Draws those cells of a row again that differ from these bytes, looking at each of them, and all of a row of which none is known to be
@@ -100,7 +110,7 @@ fn make_stale(shadows: &mut [Shadow])
     ensures { shadows.new ≡ map made_stale shadows.old }
 {
     for shadow in shadows.iter_mut() {
-        shadow.stale = true;
+        shadow.set_stale();
     }
 }
 

@@ -42,9 +42,8 @@ fn compose_line(layer: &Layer, screen: &Screen<'_>, y: u8, out: &mut [u8; WIDTH]
     ensures { out.new ≡ picture_line layer.now.roms screen.now y }
 {
     let source = screen.source(y);
-    let boxes = screen.boxes_on(source);
     layer.line(source, out);
-    paint_unless_none(layer.graphics(), screen, boxes, source, out);
+    paint_unless_none(layer.graphics(), screen, source, out);
     turn(out, screen.flip());
 }
 
@@ -54,9 +53,8 @@ pub fn compose_alone(graphics: &Graphics, screen: &Screen<'_>, y: u8, out: &mut 
     ensures { out.new ≡ picture_line graphics.now screen.now y }
 {
     let source = screen.source(y);
-    let boxes = screen.boxes_on(source);
     lay_alone(graphics, screen, source, out);
-    paint_unless_none(graphics, screen, boxes, source, out);
+    paint_unless_none(graphics, screen, source, out);
     turn(out, screen.flip());
 }
 

@@ -157,13 +157,7 @@ fn has_box(boxes: u64, k: u8) -> bool
 }
 
 /// Paints the eight sprites over line y of the picture, whose boxes are told by bits: the first is in front of all, so it comes last.
-pub(crate) fn paint_sprites(
-    graphics: &Graphics,
-    screen: &Screen<'_>,
-    boxes: u64,
-    y: u8,
-    out: &mut [u8; WIDTH],
-)
+fn paint_sprites(graphics: &Graphics, screen: &Screen<'_>, boxes: u64, y: u8, out: &mut [u8; WIDTH])
     requires { AreBoxes boxes screen.now y }
     ensures dots { (x : ℕ) → x < tile.width → slice_index out.new x
         ≡ unwrap_or (find is_opaque (tabulate 8
@@ -180,15 +174,15 @@ pub(crate) fn paint_sprites(
 pub(crate) fn paint_unless_none(
     graphics: &Graphics,
     screen: &Screen<'_>,
-    boxes: u64,
     y: u8,
     out: &mut [u8; WIDTH],
 )
-    requires { AreBoxes boxes screen.now y }
+    requires { y < tile.height }
     ensures dots { (x : ℕ) → x < tile.width → slice_index out.new x
         ≡ unwrap_or (find is_opaque (tabulate 8
         (λ k. sprite_dot graphics.now (sprite_at screen.now k) x y))) (slice_index out.old x) }
 {
+    let boxes = screen.boxes_on(y);
     if boxes != 0 {
         paint_sprites(graphics, screen, boxes, y, out);
     }

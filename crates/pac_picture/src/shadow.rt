@@ -1,7 +1,7 @@
 //! The bytes that a row of cells was drawn from.
 
 ghost use Rattle.std.specs.Prelude.{◌≡◌};
-ghost use Rattle.pac_picture.specs.LayerProofs.{stale_row};
+ghost use Rattle.pac_picture.specs.LayerProofs.{made_stale, stale_row};
 
 use crate::size::{COLUMNS, RowBytes};
 
@@ -26,5 +26,13 @@ impl Shadow {
             colours: [0; COLUMNS],
             stale: true,
         }
+    }
+
+    /// Makes every cell count as differing.
+    #[inline(always)]
+    pub(crate) fn set_stale(&mut self)
+        ensures { self.new ≡ made_stale self.old }
+    {
+        self.stale = true;
     }
 }

@@ -5,6 +5,6 @@ loop-x-preserved c =
     let inside : c.loop-x.x < length c.loop-x.bytes = omega (arith, c.loop-x.invariant.long) in
     record {
       long = search rules;
-      filled = set-one-more c.loop-x.bytes _ _ _ _ inside (ap (λ place. get_or c.args.rom.now place 0) (omega arith))
+      filled = set-one-more c.loop-x.bytes _ _ _ _ inside (ap (λ place. get_or c.args.rom.now place 0) c.pixel_place.ensures.place)
           c.loop-x.invariant.filled;
     }

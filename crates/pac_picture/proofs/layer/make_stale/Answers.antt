@@ -5,12 +5,12 @@ use Rattle.pac_picture.proofs.layer.make_stale.Goals as goal
 pub loop-shadow-preserved : goal.loop-shadow-preserved
 loop-shadow-preserved c = record {
   long = search (rules, places);
-  made = made-step c.args.shadows.now c.loop-shadow.shadows c.loop-shadow.shadow-index (omega (
+  made = rw c.set_stale.ensures (made-step c.args.shadows.now c.loop-shadow.shadows c.loop-shadow.shadow-index (omega (
     arith,
     c.loop-shadow-test.true,
     c.loop-shadow.invariant.long,
   ))
-      c.loop-shadow.invariant.made c.loop-shadow.invariant.rest;
+      c.loop-shadow.invariant.made c.loop-shadow.invariant.rest);
   rest = made-rest c.args.shadows.now c.loop-shadow.shadows c.loop-shadow.shadow-index _ c.loop-shadow.invariant.rest;
 }
 

@@ -11,5 +11,6 @@ returns-else-boxes-ne0 c =
     record {
       dots = λ x inside. none-painted (λ k. sprite_dot roms (sprite k) x y) (slice_index c.args.out.now x)
           (λ k under below.
-          dot-off roms (sprite k) x y under (none-there c.args.boxes _ (2 * k) (search rules) (c.requires k below)));
+          dot-off roms (sprite k) x y under
+          (none-there c.boxes_on-boxes.result _ (2 * k) (search rules) (c.boxes_on-boxes.ensures k below)));
     }

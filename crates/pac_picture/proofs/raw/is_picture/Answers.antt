@@ -1,7 +1,7 @@
 -- All numbers of a picture, one line after another, are those of its lines.
 use Rattle.pac_picture.proofs.Common.{IsPicture, List, [], arith, common_steps, flat_map, get_or, get_or-append-add, get_or-append_right}
-use Rattle.pac_picture.proofs.Common.{get_or_append_left, get_or_past, length, length-append, lt-ltb, ltb-true, subst, suc, sym, true, zero}
-use Rattle.pac_picture.proofs.Common.{ℕ, ◌++◌, ◌+◌, ◌-◌, ◌<◌, ◌↔◌, ◌∷◌, ◌≡◌, ◌≤◌}
+use Rattle.pac_picture.proofs.Common.{get_or_append_left, get_or_past, length, length-append, lt-ltb, ltb-true, subst, suc, sym, zero}
+use Rattle.pac_picture.proofs.Common.{ℕ, ◌+◌, ◌-◌, ◌<◌, ◌∷◌}
 
 abbrev flat : List (List ℕ) → List ℕ
 flat lines = flat_map (λ line. line) lines
