@@ -1,7 +1,7 @@
 -- Where a part has to be there and none of its faults is found, its file has the part's size.
 use Rattle.pac_roms_manifest.proofs.Common.{Bool, Bor, IfSome, List, Manifest, None, Option, Part, PartName, PlainEntry, Unnamed, [], arith}
-use Rattle.pac_roms_manifest.proofs.Common.{both-none, option_or, two_programs_fault}
-use Rattle.pac_roms_manifest.proofs.Common.{bytes_named, code_of_part, entry_of_part, false, fault_at, fault_of_set, file_fault, first_answer, is_some}
+use Rattle.pac_roms_manifest.proofs.Common.{both-none, fault_of_set, option_or, two_programs_fault}
+use Rattle.pac_roms_manifest.proofs.Common.{bytes_named, code_of_part, entry_of_part, false, fault_at, file_fault, first_answer, is_some}
 use Rattle.pac_roms_manifest.proofs.Common.{is_unnamed, length, length-append, needs_table, none-parts, option_copied, option_map}
 use Rattle.pac_roms_manifest.proofs.Common.{parts_in_order, program_bytes, program_size, rom_part_bytes, rom_part_size, rules, true}
 use Rattle.pac_roms_manifest.proofs.Common.{unnamed_fault, unwrap_or, ℕ, ◌>>=◌, ◌≡◌}
@@ -21,7 +21,8 @@ all-none a b c none = ((both-none a (option_or b c) none).0, (both-none b c (bot
 
 -- a set without a fault has no table that is missing, and no file that is wrong
 pub faultless : (manifest : Manifest) (files : List Part) (assembled : Bool) → fault_of_set manifest files assembled ≡ None
-    → (first_answer (unnamed_fault manifest assembled) parts_in_order ≡ None) × (first_answer (file_fault manifest files) parts_in_order ≡ None)
+    → (first_answer (unnamed_fault manifest assembled) parts_in_order ≡ None)
+    × (first_answer (file_fault manifest files) parts_in_order ≡ None)
 faultless manifest files assembled none = all-none (first_answer (unnamed_fault manifest assembled) parts_in_order)
     (two_programs_fault manifest assembled) (first_answer (file_fault manifest files) parts_in_order) none
 

@@ -143,7 +143,8 @@ fn run_files<'a>(values: &ArgMatches<'a>) -> Option<RunFiles<'a>>
 
 /// The file of `dis`, where it is there.
 fn dis_file<'a>(values: &ArgMatches<'a>) -> Option<&'a str>
-    ensures { option_map (λ file. file.now) result ≡ line.asked_dis (rows_of (found_of values.now)) }
+    ensures { option_map (λ file. file.now) result
+        ≡ line.asked_dis (rows_of (found_of values.now)) }
 {
     text(values, "file")
 }
