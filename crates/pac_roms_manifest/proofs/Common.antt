@@ -13,7 +13,7 @@ unfoldable pub use Rattle.pac_roms_manifest.specs.Manifests.{manifest_of}
 pub use Rattle.pac_roms_manifest.specs.Parts.{parts_in_order, rom_part_size}
 pub use Rattle.pac_roms_manifest.specs.Results.{ReadsAs, ReadsValue, SetGives}
 pub use Rattle.pac_roms_manifest.specs.Sets.{bytes_named, code_of_part, digest_of, fault_at, fault_of_set, file_fault, first_answer}
-pub use Rattle.pac_roms_manifest.specs.Sets.{is_unnamed, needs_table, parts_of_set, program_bytes, unnamed_fault}
+pub use Rattle.pac_roms_manifest.specs.Sets.{is_unnamed, needs_table, parts_of_set, program_bytes, two_programs_fault, unnamed_fault}
 unfoldable pub use Rattle.pac_roms_manifest.specs.Sets.{rom_part_bytes, set_of}
 pub use Rattle.pac_roms_manifest.specs.declared.fault.ManifestCode.TheVariants.{Unnamed}
 pub use Rattle.pac_roms_manifest.specs.declared.fault.SetError.{SetError}
@@ -25,6 +25,7 @@ pub use Rattle.pac_roms_manifest.specs.declared.part.PartName.TheVariants.{Progr
 pub use Rattle.pac_roms_manifest.specs.declared.reading.Misread.{Misread}
 pub use Rattle.std.proofs.Common.{IfSome}
 pub use Rattle.std.proofs.lemmas.Str.{IsUtf8-from_is_utf8, is_utf8-from_IsUtf8}
+pub use Rattle.std.specs.Option.{option_or}
 pub use Rattle.std.specs.Prelude.{IsUtf8, filter_map, option_and_then, option_copied, unwrap_or}
 pub use Rattle.toml.specs.Data.{Data, Members, array}
 unfoldable pub use Rattle.toml.specs.Parse.{parse_document}

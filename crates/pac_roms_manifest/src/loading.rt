@@ -8,6 +8,8 @@ ghost use Rattle.pac_roms_manifest.specs.Parts.{parts_in_order};
 ghost use Rattle.pac_roms_manifest.specs.Sets.{first_answer, needs_table, is_unnamed};
 ghost use Rattle.pac_roms_manifest.specs.Sets.{unnamed_fault, two_programs_fault, digest_differs};
 ghost use Rattle.pac_roms_manifest.specs.Sets.{code_of_part, fault_at, file_fault, bytes_named};
+ghost use Rattle.pac_roms_manifest.specs.Sets.{fault_of_set};
+ghost use Rattle.pac_roms_manifest.specs.declared.part.PartName.TheVariants as name;
 ghost use Rattle.pac_roms_manifest.specs.Sets.{rom_part_bytes, program_bytes, set_of, digest_of};
 
 use crate::fault::{ManifestCode, SetError, SetFault};
@@ -49,19 +51,9 @@ pub fn load_set_into(
     ensures { SetGives (filled result set.new)
         (set_of manifest.now files.now (option_copied assembled.entry)) }
 {
-    let has_source = assembled.is_some();
-    check_names(manifest, has_source)?;
-    check_programs(manifest, has_source)?;
-    check_files(manifest, files)?;
+    check(manifest, files, assembled.is_some())?;
     let program = program(alloc, manifest, files, assembled)?;
-    let raw = Raw {
-        tiles: bytes(manifest, files, PartName::Tiles),
-        sprites: bytes(manifest, files, PartName::Sprites),
-        colours: bytes(manifest, files, PartName::Colours),
-        lookup: bytes(manifest, files, PartName::Lookup),
-        wave: bytes(manifest, files, PartName::Wave),
-    };
-    set.put(&program, &raw);
+    set.put(&program, &raw(manifest, files));
     Ok(())
 }
 
@@ -77,6 +69,15 @@ pub fn digest(set: &RomSet) -> [u8; 20]
     hasher.update(set.lookup());
     hasher.update(set.wave());
     hasher.finalize()
+}
+
+/// The first fault of a set, where a source is assembled or isn't.
+fn check(manifest: &Manifest, files: &[Part<'_>], assembled: bool) -> Result<(), SetFault>
+    ensures { FindsFault result (fault_of_set manifest.now files.now assembled) }
+{
+    check_names(manifest, assembled)?;
+    check_programs(manifest, assembled)?;
+    check_files(manifest, files)
 }
 
 /// M2, where a part that has to be there has no table, or its table no file.
@@ -207,6 +208,23 @@ fn bytes<'a>(manifest: &Manifest, files: &[Part<'a>], part: PartName) -> &'a [u8
     match bytes_named(files, name) {
         Some(bytes) => bytes,
         None => &[],
+    }
+}
+
+/// The parts of a set beside its program, as its files have them.
+fn raw<'a>(manifest: &Manifest, files: &[Part<'a>]) -> Raw<'a>
+    ensures tiles { result.tiles.now ≡ rom_part_bytes manifest.now files.now name.Tiles }
+    ensures sprites { result.sprites.now ≡ rom_part_bytes manifest.now files.now name.Sprites }
+    ensures colours { result.colours.now ≡ rom_part_bytes manifest.now files.now name.Colours }
+    ensures lookup { result.lookup.now ≡ rom_part_bytes manifest.now files.now name.Lookup }
+    ensures wave { result.wave.now ≡ rom_part_bytes manifest.now files.now name.Wave }
+{
+    Raw {
+        tiles: bytes(manifest, files, PartName::Tiles),
+        sprites: bytes(manifest, files, PartName::Sprites),
+        colours: bytes(manifest, files, PartName::Colours),
+        lookup: bytes(manifest, files, PartName::Lookup),
+        wave: bytes(manifest, files, PartName::Wave),
     }
 }
 

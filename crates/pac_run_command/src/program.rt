@@ -4,7 +4,7 @@ ghost use Rattle.std.specs.Prelude.{◌≡◌, ◌≢◌, ◌≤◌, [], map, st
 ghost use Rattle.clap.specs.Words.{kind_of};
 ghost use Rattle.pac_run_options.specs.CommandLine.{faults_of, request_of};
 ghost use Rattle.pac_run_options.specs.CommandLineProofs.{told_request};
-ghost use Rattle.pac_run_command.specs.Endings.{FailureEnds, WordsEnd, WorkEnds};
+ghost use Rattle.pac_run_command.specs.Endings.{FailureEnds, HelpEnds, WordsEnd, WorkEnds};
 ghost use Rattle.pac_run_command.specs.EndingsProofs.{ending_told};
 ghost use Rattle.pac_run_command.specs.Failures as told;
 ghost use Rattle.pac_run_command.specs.Machine.{IsUnheard, RunsOn, WorksOn};
@@ -23,7 +23,7 @@ use crate::play::play;
 use crate::standard::run_heard;
 use crate::teller::{HostConsole, Teller};
 use clap::error::ErrorKind;
-use pac_run::{Out, Output, Through};
+use pac_run::{Out, Output, Through, WriteFault};
 use pac_run_files::{FileSystem, HostFile, HostFiles};
 use pac_run_options::{Request, options};
 use std::alloc::Global;
@@ -259,6 +259,15 @@ fn explain<C: Teller>(console: &mut C, error: &clap::Error) -> u8
     if error.use_stderr() {
         return 2;
     }
+    end_help(console, written)
+}
+
+/// The status of help or of the version, by whether it was written to standard output; where it wasn't, this is told as a failure.
+fn end_help<C: Teller>(console: &mut C, written: Result<(), WriteFault>) -> u8
+    ensures ends { HelpEnds (ending_told C.tells C.explains console.old console.new result)
+        written }
+    ensures status { told.IsHelpStatus result }
+{
     match written {
         Ok(()) => 0,
         Err(fault) => refuse(console, Output::Text, fault.count),

@@ -85,7 +85,7 @@ fn request<'a>(matches: &ArgMatches<'a>) -> Option<Request<'a>>
         "asm" => asm_files(values).map(Request::Asm),
         "run" => play_files(values).map(Request::Run),
         "debug" => debug_files(values).map(Request::Debug),
-        "dis" => text(values, "file").map(Request::Dis),
+        "dis" => dis_file(values).map(Request::Dis),
         _ => None,
     }
 }
@@ -139,6 +139,14 @@ fn run_files<'a>(values: &ArgMatches<'a>) -> Option<RunFiles<'a>>
         whole: is_given(values, "whole"),
         dip,
     })
+}
+
+/// The file of `dis`, where it is there.
+fn dis_file<'a>(values: &ArgMatches<'a>) -> Option<&'a str>
+    ensures { option_map (λ file. file.now) result
+        ≡ line.asked_dis (rows_of (found_of values.now)) }
+{
+    text(values, "file")
 }
 
 /// The files of `debug`, where all are there.
