@@ -30,7 +30,7 @@ COMPILE = f"--target={TARGET} -mcpu=lime1 -msimd128 -fno-unroll-loops -Wno-overr
 
 OF_X86 = re.compile(r' "probe-stack"="[^"]*"| "stack-probe-size"="[^"]*"| "target-cpu"="x86-64-v2"')
 CALL = re.compile(r"^(?P<head>define (?!internal|private).*@(?P<name>pac_\w+)\(.*\)) (?P<group>#\d+) \{$", re.MULTILINE)
-DECLARED = re.compile(r"^declare (?P<result>.*?)@(?P<name>[\w.]+)(?P<rest>\(.*\)) #\d+$", re.MULTILINE)
+DECLARED = re.compile(r'^declare (?P<result>.*?)@(?P<name>[\w.]+|"[^"]*")(?P<rest>\(.*\))(?: #\d+)?$', re.MULTILINE)
 PSHUFB = re.compile(
     r"^  (?P<value>%[\w.]+) = call <16 x i8> @llvm\.x86\.ssse3\.pshuf\.b\.128\(<16 x i8> (?P<table>%[\w.]+), <16 x i8> (?P<numbers>%[\w.]+)\)$",
     re.MULTILINE,
