@@ -122,11 +122,11 @@ def lay_kit(to, kept, target=""):
     return to / "bin/rt"
 
 
-def run(rt, folder, *words):
-    """Runs `rt` with these words in the folder of a crate, over what is proved below it, and tells how far it is; ends where it fails."""
-    begun, command = time.monotonic(), f"rt {words[0]}"
+def run(tool, folder, *words):
+    """Runs a tool, as `rt`, with these words in a folder, and tells every two seconds how far it is; ends where it fails."""
+    begun, command = time.monotonic(), f"{pathlib.Path(tool).name} {words[0]}"
     with tempfile.TemporaryFile("w+") as said:
-        with subprocess.Popen([rt, *words], cwd=folder, stdout=said, stderr=subprocess.STDOUT) as process:
+        with subprocess.Popen([tool, *words], cwd=folder, stdout=said, stderr=subprocess.STDOUT) as process:
             while process.poll() is None:
                 with contextlib.suppress(subprocess.TimeoutExpired):
                     process.wait(TOLD)

@@ -13,7 +13,6 @@ import re
 import subprocess
 import sys
 import tempfile
-import time
 
 sys.dont_write_bytecode = True
 sys.path.insert(0, str(pathlib.Path(__file__).resolve().parents[1]))
@@ -88,19 +87,6 @@ def retargeted(text: str, clang: pathlib.Path) -> str:
     return layout(clang) + called_once(text)
 
 
-def run(name: str, words: list[str | pathlib.Path]) -> None:
-    """Runs a command, and tells every two seconds that it's at work for a module of this name; one that fails is a fault with what it said."""
-    begun = time.monotonic()
-    with tempfile.TemporaryFile("w+") as said, subprocess.Popen(words, stdout=said, stderr=subprocess.STDOUT) as process:
-        while process.poll() is None:
-            try:
-                process.wait(library.TOLD)
-            except subprocess.TimeoutExpired:
-                print(f"{name}: {pathlib.Path(words[0]).name}, {time.monotonic() - begun:.0f} s", file=sys.stderr, flush=True)
-        if process.returncode:
-            raise Unknown(library.text_of(said).strip())
-
-
 def module_of(bitcode: pathlib.Path, memory: int, stack: int) -> bytes:
     """The module of a library's bitcode, with so many bytes of memory, and of these so many of stack; its addresses have 64 bits."""
     kit = library.kit()
@@ -109,9 +95,8 @@ def module_of(bitcode: pathlib.Path, memory: int, stack: int) -> bytes:
     with tempfile.TemporaryDirectory(prefix="web-") as place:
         room = pathlib.Path(place)
         (room / "module.ll").write_text(retargeted(text, clang))
-        run(bitcode.stem, [clang, *COMPILE, room / "module.ll", "-o", room / "module.o"])
-        run(bitcode.stem, [kit / "toolchain/bin/llvm-ar", "qcsD", room / "module.a", room / "module.o"])
+        library.run(clang, room, *COMPILE, "module.ll", "-o", "module.o")
+        library.run(kit / "toolchain/bin/llvm-ar", room, "qcsD", "module.a", "module.o")
         sizes = ["--memory", str(memory), "--stack", str(stack)]
-        linker = [kit / "bin/rattle-link", "--target", TARGET, "--toolchain", kit / "toolchain", *sizes]
-        run(bitcode.stem, [*linker, "-o", room / "module.wasm", room / "module.a"])
+        library.run(kit / "bin/rattle-link", room, "--target", TARGET, "--toolchain", kit / "toolchain", *sizes, "-o", "module.wasm", "module.a")
         return (room / "module.wasm").read_bytes()
