@@ -1,13 +1,15 @@
 //! What a run plays, made from what it is given. All of its memory is found here.
 
-ghost use Rattle.std.specs.Prelude.{◌≡◌, length, option_map, option_copied, IfOk, IfSome};
+ghost use Rattle.std.specs.Prelude.{◌≡◌, ℕ, length, option_map, option_copied, IfErr, IfOk, IfSome};
+ghost use Rattle.std.specs.Prelude.{Err, List, Ok, Option};
 ghost use Rattle.pac_board_course.specs.Script.{script_of};
 ghost use Rattle.pac_asm.specs.Assembled.{Assembled};
 ghost use Rattle.pac_board_course.specs.RomParts.{IsWhole, program_size};
 ghost use Rattle.pac_roms_manifest.specs.Results.{filled};
 ghost use Rattle.pac_run.specs.Plan.{program_in, set_in};
 ghost use Rattle.pac_run.specs.PlanProofs.{fault_told, script_told, Judges, LieIn};
-ghost use Rattle.pac_run.specs.Started.{Prepares};
+ghost use Rattle.pac_run.specs.Start.{IsFirstBoard};
+ghost use Rattle.pac_run.specs.Started.{IsStarted, Prepares};
 
 use crate::fault::RunFault;
 use crate::inputs::RunInputs;
@@ -114,30 +116,69 @@ fn script(alloc: Global, text: &[u8]) -> Result<Script, RunFault>
     }
 }
 
-/// What is played: the source is judged first, then the set, then the script, then the state file that the run begins with, if
-/// there is one.
+/// The program of the source, and over the set that is there the one of the run: the source is judged first, and then the set.
 #[tactic(auto, unfolding(crate::specs::Plan::plan_of))]
-pub fn prepare(alloc: Global, inputs: &RunInputs, from: Option<&[u8]>) -> Result<Prepared, RunFault>
-    ensures { Prepares inputs.now (option_copied from.entry) result }
+fn program_and_set(
+    alloc: Global,
+    inputs: &RunInputs,
+    set: &mut RomSet,
+) -> Result<Option<Program>, RunFault>
+    ensures program { IfOk result (λ program. program_in (option_copied inputs.now.source) ≡ Ok program) }
+    ensures set { IfOk result (λ program. set_in inputs.now.manifest.now inputs.now.parts.now program ≡ Ok set.new) }
+    ensures whole { IfOk result (λ _. IsWhole set.new) }
+    ensures lie { IfOk result LieIn }
+    ensures refused { (from : Option (List ℕ)) → IfErr result (λ fault. Prepares inputs.now from (Err fault)) }
 {
     let program = program(alloc, inputs.source)?;
-    let mut set = RomSet::zeroed();
-    put_set(alloc, inputs.manifest, inputs.parts, &program, &mut set)?;
+    put_set(alloc, inputs.manifest, inputs.parts, &program, set)?;
+    Ok(program)
+}
+
+/// The board that a run on a set begins with, its script, which is judged before a state file, and room for its images.
+fn begun(
+    alloc: Global,
+    inputs: &RunInputs,
+    from: Option<&[u8]>,
+    set: &RomSet,
+) -> Result<(Box<Board>, Script, Image), RunFault>
+    ensures script { IfOk result (λ begun. script_told (script_of inputs.now.script.now) ≡ Ok begun.1) }
+    ensures board { IfOk result (λ begun. IsStarted
+        (IsFirstBoard set.now inputs.now.dip begun.1 (option_copied from.entry)) set.now begun.1 begun.0.value) }
+    ensures refused { (program : Option Assembled) → program_in (option_copied inputs.now.source) ≡ Ok program
+        → set_in inputs.now.manifest.now inputs.now.parts.now program ≡ Ok set.now
+        → IfErr result (λ fault. Prepares inputs.now (option_copied from.entry) (Err fault)) }
+{
     let script = match script(alloc, inputs.script) {
         Ok(script) => script,
         Err(fault) => return Err(fault),
     };
-    let board = match first_board(alloc, &set, inputs.dip, from, &script) {
+    let board = match first_board(alloc, set, inputs.dip, from, &script) {
         Ok(board) => board,
         Err(fault) => return Err(fault),
     };
-    let Ok(image) = Image::new(alloc) else {
-        return Err(RunFault::NoMemory);
+    match Image::new(alloc) {
+        Ok(image) => Ok((board, script, image)),
+        Err(_) => Err(RunFault::NoMemory),
+    }
+}
+
+/// What is played: the source is judged first, then the set, then the script, then the state file that the run begins with, if
+/// there is one.
+pub fn prepare(alloc: Global, inputs: &RunInputs, from: Option<&[u8]>) -> Result<Prepared, RunFault>
+    ensures { Prepares inputs.now (option_copied from.entry) result }
+{
+    let mut set = RomSet::zeroed();
+    let program = match program_and_set(alloc, inputs, &mut set) {
+        Ok(program) => program,
+        Err(fault) => return Err(fault),
     };
-    Ok(Prepared {
-        program,
-        board,
-        script,
-        image,
-    })
+    match begun(alloc, inputs, from, &set) {
+        Ok((board, script, image)) => Ok(Prepared {
+            program,
+            board,
+            script,
+            image,
+        }),
+        Err(fault) => Err(fault),
+    }
 }

@@ -9,7 +9,7 @@ pub use Rattle.pac_lemmas.proofs.Pieces.{map-one-more, map-split}
 pub use Rattle.pac_run_files.specs.Files.{AllBegun, FindsFile, FirstUnbegun, FirstUnread, Handling, IsUnread, LeadsIf, MayFind, WantedFile}
 pub use Rattle.pac_run_files.specs.Files.{WantedOutput, before_slash, begins_by, drafted, folder_of, lets_go_by, put_before, standing_by}
 pub use Rattle.pac_run_files.specs.Links.{FindsLink, Leads, LeadsOn, Way, way_along, way_from}
-pub use Rattle.pac_run_files.specs.LinksProofs.{Follows, IsReached, MeetsPart, is_joined, parts_left, way_of_place}
+pub use Rattle.pac_run_files.specs.LinksProofs.{Follows, IsReached, MeetsPart, is_joined, links_past, parts_left, way_of_place}
 pub use Rattle.pac_run_files.specs.Names.{begins_below, climbs, is_within_folder, lengthen, name_parts, slash, told_character}
 pub use Rattle.pac_run_files.specs.Read.{HasGivenFiles, HasIfNamed, HasParts, HasRead, IsPart, PartUnread, manifest_part_names, part_files}
 pub use Rattle.pac_run_files.specs.Read.{played_files, told_file, told_part, watched_files}

@@ -1,9 +1,9 @@
 -- Names that are followed part by part.
 use Rattle.pac_run_files.proofs.Common.{Bool, Bor, FindsLink, Follows, Global, IsReached, Leads, LeadsOn, List, MeetsPart, None, Option}
-use Rattle.pac_run_files.proofs.Common.{PlaceReached, Some, String, Way, [], ap, append-nil, arith, begins_below, codes, false}
+use Rattle.pac_run_files.proofs.Common.{PlaceReached, Some, String, Way, [], ap, append-nil, codes, false}
 use Rattle.pac_run_files.proofs.Common.{if◌then◌else◌, is_joined, lengthen, name_parts, option_map, parts_left, refl, slash, string_bytes}
-use Rattle.pac_run_files.proofs.Common.{subst, suc, sym, true, way_along, way_from, way_of_place, zero, ℕ, ◌++◌, ◌-◌, ◌==◌, ◌∙◌, ◌∷◌, ◌≡◌}
-use Rattle.pac_run_files.proofs.Common.{◌≢◌}
+use Rattle.pac_run_files.proofs.Common.{links_past, rules, subst, suc, sym, true, way_along, way_from, way_of_place, zero, ℕ, ◌++◌, ◌==◌}
+use Rattle.pac_run_files.proofs.Common.{◌∙◌, ◌∷◌, ◌≡◌}
 use Rattle.pac_run_files.specs.declared.links.Met.TheVariants as met
 use Rattle.pac_run_files.specs.declared.links.Rest.TheVariants as rest
 
@@ -104,22 +104,16 @@ pub parts-of-joined : (link : String Global) (more : Option (Bor (List ℕ))) (j
 parts-of-joined link None joined is = ap name_parts is ∙ sym (append-nil (name_parts (string_bytes link)))
 parts-of-joined link (Some more) joined is = ap name_parts is ∙ parts-joined (string_bytes link) more.now
 
--- a link that isn't followed, and one that is
-pub along-none : (links : ℕ) (way : Way) (text : List ℕ) (parts : List (List ℕ)) → begins_below text ≡ false
-    → way_along links way text parts ≡ None
-along-none zero way text parts out = refl
-along-none (suc links) way text parts out = rw out refl
-
-pub along-zero : (links : ℕ) (way : Way) (text : List ℕ) (parts : List (List ℕ)) → links ≡ 0 → way_along links way text parts ≡ None
-along-zero zero way text parts none = refl
-along-zero (suc links) way text parts none = absurd (omega (arith, none))
-
-pub along-some : (links : ℕ) (way : Way) (text : List ℕ) (parts : List (List ℕ)) → links ≢ 0 → begins_below text ≡ true
-    → way_along links way text parts ≡ some-way way.path way.depth (name_parts text ++ parts) (links - 1)
-along-some zero way text parts some below = absurd (some refl)
-along-some (suc links) way text parts some below =
-    let same : links ≡ suc links - 1 = omega arith in
-    rw below (ap (λ (left : ℕ). some-way way.path way.depth (name_parts text ++ parts) left) same)
+-- the way past a link, if there may be one
+along-is : (links : ℕ) (way : Way) (text : List ℕ) (parts : List (List ℕ))
+    → way_along links way text parts ≡ option_map (λ left. record {
+      path = way.path;
+      depth = way.depth;
+      parts = name_parts text ++ parts;
+      links = left;
+    }) (links_past links text)
+along-is zero way text parts = search rules
+along-is (suc links) way text parts = search rules
 
 module _ (finds : FindsLink) (folder name : List ℕ) (place new : PlaceReached) (text : List ℕ) (links : ℕ)
     (reached : IsReached finds (way_from folder name) (way_of_place place (name_parts text) links)) where
@@ -142,23 +136,22 @@ module _ (finds : FindsLink) (folder name : List ℕ) (place new : PlaceReached)
         more) links)
         reached (follows.2 links)
 
-    pub lead-none : way_along links (way_of_place new (follows.0 ∷ parts_left more) links) (string_bytes link) (parts_left more) ≡ None
-        → Leads finds folder name None
+    pub lead-none : None ≡ links_past links (string_bytes link) → Leads finds folder name None
     lead-none none = record {
       steps = to-link.0;
       last = way_of_place new (follows.0 ∷ parts_left more) links;
       reached = to-link.1;
-      ends = (Some (string_bytes link), follows.1, sym none);
+      ends = (Some (string_bytes link), follows.1, rw (along-is links, ← none) refl);
     }
 
-    pub link-on : (joined : List ℕ) → is_joined link more joined → links ≢ 0 → begins_below (string_bytes link) ≡ true
-        → IsReached finds (way_from folder name) (way_of_place new (name_parts joined) (links - 1))
-    link-on joined is some below =
-        at-parts finds (way_from folder name) new (name_parts (string_bytes link) ++ parts_left more) (name_parts joined) (links - 1)
+    pub link-on : (joined : List ℕ) (left : ℕ) → is_joined link more joined → Some left ≡ links_past links (string_bytes link)
+        → IsReached finds (way_from folder name) (way_of_place new (name_parts joined) left)
+    link-on joined left is past =
+        at-parts finds (way_from folder name) new (name_parts (string_bytes link) ++ parts_left more) (name_parts joined) left
         (sym (parts-of-joined link more joined is))
         (one-on finds (way_from folder name) (way_of_place new (follows.0 ∷ parts_left more) links)
-        (way_of_place new (name_parts (string_bytes link) ++ parts_left more) (links - 1)) to-link (
+        (way_of_place new (name_parts (string_bytes link) ++ parts_left more) left) to-link (
           Some (string_bytes link),
           follows.1,
-          sym (along-some links (way_of_place new (follows.0 ∷ parts_left more) links) (string_bytes link) (parts_left more) some below),
+          rw (along-is links, ← past) refl,
         ))

@@ -1,9 +1,9 @@
 -- For proofs: what proofs say of the definitions of Links.antt.
-use Rattle.std.specs.Prelude.{◌≡◌, ℕ, List, [], ◌∷◌, ◌++◌, codes, Option, Some, None, string_bytes, String}
+use Rattle.std.specs.Prelude.{◌≡◌, ℕ, List, [], ◌∷◌, ◌++◌, codes, if◌then◌else◌, Option, Some, None, string_bytes, String}
 use Rattle.std.specs.Borrow.{Bor}
 use Rattle.std.specs.declared.alloc.Global.{Global}
-use Rattle.pac_run_files.specs.Names.{slash, name_parts}
-use Rattle.pac_run_files.specs.Links.{FindsLink, Way, IsReachedIn, LeadsOn, depth_after}
+use Rattle.pac_run_files.specs.Names.{slash, name_parts, begins_below}
+use Rattle.pac_run_files.specs.Links.{FindsLink, Way, IsReachedIn, LeadsOn, depth_above, depth_after}
 use Rattle.pac_run_files.specs.declared.links.PlaceReached.{PlaceReached}
 use Rattle.pac_run_files.specs.declared.links.Met.{Met}
 use Rattle.pac_run_files.specs.declared.links.Met.TheVariants as met
@@ -41,3 +41,7 @@ Follows finds old parts (rest.Link text more) new = (part : List ℕ) × finds (
 abbrev pub is_joined : String Global → Option (Bor (List ℕ)) → (joined : List ℕ) → Type 0
 is_joined link None joined = joined ≡ string_bytes link
 is_joined link (Some more) joined = joined ≡ string_bytes link ++ slash ∷ more.now
+
+-- how many links there may be past one with this text; none where it can't be followed
+abbrev pub links_past : (links : ℕ) (text : List ℕ) → Option ℕ
+links_past links text = if begins_below text then depth_above links else None

@@ -1,9 +1,10 @@
 //! Where a name leads from a folder on: links are followed as long as they stay below that folder.
 
-ghost use Rattle.std.specs.Prelude.{◌≡◌, ◌-◌, ◌<◌, ◌^◌, IfOk, option_map, string_bytes};
+ghost use Rattle.std.specs.Prelude.{◌≡◌, ◌-◌, ◌<◌, ◌^◌, IfOk, IfSome, option_map};
+ghost use Rattle.std.specs.Prelude.{string_bytes};
 ghost use Rattle.pac_run_files.specs.Links.{Leads, depth_after};
 ghost use Rattle.pac_run_files.specs.Names.{name_parts};
-ghost use Rattle.pac_run_files.specs.LinksProofs.{Follows, MeetsPart, is_joined};
+ghost use Rattle.pac_run_files.specs.LinksProofs.{Follows, MeetsPart, is_joined, links_past};
 
 use crate::files::FileSystem;
 use crate::names::begins_below;
@@ -118,6 +119,17 @@ fn join(mut link: String, more: Option<&str>) -> Result<String, AllocError>
     Ok(link)
 }
 
+/// How many links there may be past one with this text; none where it can't be followed, since it is empty, absolute or one too many.
+fn links_past(links: u8, link: &str) -> Option<u8>
+    ensures left { result ≡ links_past links link.now }
+    ensures fewer { IfSome result (λ left. left < links) }
+{
+    if !begins_below(link) {
+        return None;
+    }
+    links.checked_sub(1)
+}
+
 /// The path to which a name leads from a folder on; none where it leads out of the folder.
 pub(crate) fn lead<D: FileSystem>(
     alloc: Global,
@@ -139,10 +151,10 @@ pub(crate) fn lead<D: FileSystem>(
             Rest::End => return Ok(Some(place.path)),
             Rest::Out => return Ok(None),
             Rest::Link(link, more) => {
-                if links == 0 || !begins_below(link.as_str()) {
+                let Some(left) = links_past(links, link.as_str()) else {
                     return Ok(None);
-                }
-                links -= 1;
+                };
+                links = left;
                 text = join(link, more)?;
             }
         }

@@ -1,8 +1,8 @@
 -- What the words of a command line ask for, or what is wrong with them, from what clap says of them.
-use Rattle.pac_run_options.proofs.Common.{App, ArgMatches, Asked, Error, HasKind, HasMatchesOf, Kinds, List, MissingRequiredArgument, None}
-use Rattle.pac_run_options.proofs.Common.{Option, Row, Some, Text, [], ap, arith, asked_command, conflict_of, fault_of, faults_of, inl, inr}
-use Rattle.pac_run_options.proofs.Common.{is_simple, is_simple_and_free, kind_of, lack_of, option_and_then, or_else, own_faults_of}
-use Rattle.pac_run_options.proofs.Common.{pacboard, refl, request_of, rules, subcommand_of, subcommand_rows_of, subst, sym, true, ◌∙◌, ◌≡◌}
+use Rattle.pac_run_options.proofs.Common.{App, ArgMatches, Asked, Err, Error, FailsBy, HasKind, HasMatchesOf, IfOk, Kinds, List, Ok, Option}
+use Rattle.pac_run_options.proofs.Common.{Request, Result, Row, Some, Text, [], ap, arith, asked_command, fault_of, faults_of, is_simple}
+use Rattle.pac_run_options.proofs.Common.{is_simple_and_free, option_and_then, or_else, own_faults_of, pacboard, refl, request_of, rules}
+use Rattle.pac_run_options.proofs.Common.{subcommand_of, subcommand_rows_of, subst, sym, told_request, true, ◌∙◌, ◌≡◌}
 
 -- ---- from the command as it was made
 
@@ -23,7 +23,7 @@ pub its_command : (app : App) (words : List Text) (m : ArgMatches) → app ≡ p
 its_command app words m is h = (h (ap is_simple is ∙ simple)).1 ∙ ap (λ (a : App). subcommand_of a words) is
 
 -- an error of the first kinds is one of both
-of_first : (e : Error) (kinds more : Kinds) → HasKind kinds e → HasKind (or_else kinds more) e
+pub of_first : (e : Error) (kinds more : Kinds) → HasKind kinds e → HasKind (or_else kinds more) e
 of_first e kinds more h = search rules
 
 -- an error of clap is one of the command line
@@ -42,25 +42,16 @@ module _ (words : List Text) (command : Option (Text × List Row)) (none : fault
   unfolding faults_of
   own_left = ap (λ (kinds : Kinds). or_else kinds (own_faults_of (subcommand_of pacboard words))) none ∙ ap own_faults_of (sym is)
 
-  -- one of the conflict is one of the command line
-  pub its_conflict : (e : Error) → HasKind (conflict_of command) e → HasKind (faults_of words) e
-  its_conflict e h = grind (arith, of_first, own_left)
+  pub its_refusal : (r : Result Request Error) → FailsBy (own_faults_of command) r → FailsBy (faults_of words) r
+  its_refusal r fails = subst (λ (kinds : Kinds). FailsBy kinds r) (sym own_left) fails
 
-  module _ (fine : conflict_of command ≡ []) where
-    lack_left : faults_of words ≡ lack_of (option_and_then asked_command command)
-    lack_left = own_left ∙ ap (λ (kinds : Kinds). or_else kinds (lack_of (option_and_then asked_command command))) fine
+  -- and the request is what the words ask for
+  its_request : (x : Asked) → own_faults_of command ≡ [] → option_and_then asked_command command ≡ Some x → request_of words ≡ Some x
+  unfolding request_of
+  its_request x fine asked = grind (arith, own_left)
 
-    -- one of what is lacking, where nothing is asked for
-    pub its_lack : (e : Error) → option_and_then asked_command command ≡ None → kind_of e ≡ MissingRequiredArgument
-        → HasKind (faults_of words) e
-    its_lack e asked kind =
-        subst (λ (kinds : Kinds). HasKind kinds e) (sym (lack_left ∙ ap lack_of asked)) (inr (inl kind))
-
-    -- none is left where something is asked for
-    pub none_left : (x : Asked) → option_and_then asked_command command ≡ Some x → faults_of words ≡ []
-    none_left x asked = lack_left ∙ ap lack_of asked
-
-    -- and that is the request
-    pub its_request : (x : Asked) → option_and_then asked_command command ≡ Some x → request_of words ≡ Some x
-    unfolding request_of
-    its_request x asked = grind (arith, none_left)
+  pub its_answer : (r : Result Request Error)
+      → IfOk r (λ request. option_and_then asked_command command ≡ Some (told_request request)) → FailsBy (own_faults_of command) r
+      → IfOk r (λ request. request_of words ≡ Some (told_request request))
+  its_answer (Ok request) asked fine = its_request (told_request request) fine asked
+  its_answer (Err e) asked fails = tt

@@ -10,13 +10,12 @@ pub use Rattle.clap.specs.Simple.{app_of_fields, new_shape, shape_of, subcommand
 pub use Rattle.clap.specs.Takes.{is_given}
 pub use Rattle.clap.specs.ValueTests.{is_unsigned_in}
 pub use Rattle.clap.specs.Walk.{Row, Text, is_simple_arg, one_of, rows_of}
-pub use Rattle.clap.specs.Words.{AddsArg, AddsInTurn, AddsSubcommand, App, HasKind, HasMatchesOf, Kinds, Rule, app_of, fault_of, found_of}
-pub use Rattle.clap.specs.Words.{is_simple, is_simple_and_free, kind_of, rule_of, subcommand_of, subcommand_rows_of, with_rule}
+pub use Rattle.clap.specs.Words.{AddsArg, AddsInTurn, AddsSubcommand, App, FailsBy, HasKind, HasMatchesOf, Kinds, Rule, app_of, fault_of}
+pub use Rattle.clap.specs.Words.{found_of, is_simple, is_simple_and_free, rule_of, subcommand_of, subcommand_rows_of, with_rule}
 pub use Rattle.clap.specs.declared.builder.arg.Arg.{Arg}
 pub use Rattle.clap.specs.declared.builder.command.Command.{Command}
 pub use Rattle.clap.specs.declared.builder.command.Command.TheViews.{out-Command}
 pub use Rattle.clap.specs.declared.error.Error.{Error}
-pub use Rattle.clap.specs.declared.error.kind.ErrorKind.TheVariants.{MissingRequiredArgument}
 pub use Rattle.clap.specs.declared.parser.matches.ArgMatches.{ArgMatches}
 pub use Rattle.clap.specs.declared.parser.matches.ArgMatches.TheViews.{out-SubCommand}
 pub use Rattle.clap.specs.declared.parser.matches.Found.{Found}
@@ -24,14 +23,15 @@ pub use Rattle.clap.specs.declared.parser.matches.SubCommand.{SubCommand}
 pub use Rattle.clap.specs.declared.parser.matches.ValueSource.{ValueSource}
 pub use Rattle.clap.specs.declared.parser.matches.ValueSource.TheVariants.{CommandLine, DefaultValue}
 pub use Rattle.pac_run_options.specs.CommandLine.{Asked, AskedDebug, AskedPlay, AskedRun, asked_command, byte_of_text, command, conflict_of}
-pub use Rattle.pac_run_options.specs.CommandLine.{lack_of, own_faults_of}
+pub use Rattle.pac_run_options.specs.CommandLine.{own_faults_of}
 unfoldable pub use Rattle.pac_run_options.specs.CommandLine.{faults_of, pacboard, request_of}
-pub use Rattle.pac_run_options.specs.CommandLineProofs.{app_of_command, told_debug, told_play, told_run}
+pub use Rattle.pac_run_options.specs.CommandLineProofs.{app_of_command, told_debug, told_play, told_request, told_run}
 pub use Rattle.pac_run_options.specs.Rows.{told_argument}
 pub use Rattle.pac_run_options.specs.declared.command.Argument.{Argument}
+pub use Rattle.pac_run_options.specs.declared.request.Request.{Request}
 pub use Rattle.std.proofs.Common.{Bool, Err, Global, IfOk, List, None, Ok, Option, Result, Some, Vec, [], add-one, ap, append-nil}
-pub use Rattle.std.proofs.Common.{append_assoc, ap₂, arith, codes, cond, drop, drop-cons, false, fold, get_or, inl, inr, is_some, length}
-pub use Rattle.std.proofs.Common.{map, option_map, refl, rules, subst, sym, true, ℕ, ◌++◌, ◌+◌, ◌<◌, ◌^◌, ◌∙◌, ◌∷◌, ◌≡◌}
+pub use Rattle.std.proofs.Common.{append_assoc, ap₂, arith, codes, cond, drop, drop-cons, false, fold, get_or, is_some, length, map}
+pub use Rattle.std.proofs.Common.{option_map, refl, rules, subst, sym, true, ℕ, ◌++◌, ◌+◌, ◌<◌, ◌^◌, ◌∙◌, ◌∷◌, ◌≡◌}
 pub use Rattle.std.proofs.lemmas.Grind.{common_steps}
 pub use Rattle.std.proofs.lemmas.List.{map-append}
 pub use Rattle.std.proofs.lemmas.Result.{IfOk-weaker}

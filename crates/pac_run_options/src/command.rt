@@ -267,8 +267,8 @@ fn place<'a>(alloc: Global, name: &'a str, value: &'a str, help: &'a str, requir
 pub fn dip_conflict(alloc: Global) -> Result<Error, AllocError>
     ensures { IfOk result (λ error. kind_of error ≡ ErrorKind.ArgumentConflict) }
 {
-    let mut command = run_command(alloc, "pacboard run")?;
-    command.error(
+    error_of(
+        run_command(alloc, "pacboard run"),
         ErrorKind::ArgumentConflict,
         "the argument '--dip <N>' cannot be used with '--load <FILE>'",
     )
@@ -278,9 +278,32 @@ pub fn dip_conflict(alloc: Global) -> Result<Error, AllocError>
 pub fn lack(alloc: Global) -> Result<Error, AllocError>
     ensures { IfOk result (λ error. kind_of error ≡ ErrorKind.MissingRequiredArgument) }
 {
-    let mut command = pacboard(alloc)?;
-    command.error(
+    error_of(
+        pacboard(alloc),
         ErrorKind::MissingRequiredArgument,
         "the words don't say all that is needed",
     )
+}
+
+/// An error of a command that was made.
+fn error_of(
+    command: Result<Command<'_>, AllocError>,
+    kind: ErrorKind,
+    message: &str,
+) -> Result<Error, AllocError>
+    ensures { IfOk result (λ error. kind_of error ≡ kind) }
+{
+    match command {
+        Ok(command) => told(command, kind, message),
+        Err(error) => Err(error),
+    }
+}
+
+/// An error of a command, which is dropped by one call: each way out costs a check as much as what is dropped on it has parts.
+fn told(mut command: Command<'_>, kind: ErrorKind, message: &str) -> Result<Error, AllocError>
+    ensures { IfOk result (λ error. kind_of error ≡ kind) }
+{
+    let error = command.error(kind, message);
+    drop(command);
+    error
 }

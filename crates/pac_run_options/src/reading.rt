@@ -24,8 +24,17 @@ pub fn options<'a, S: AsStr>(alloc: Global, words: &'a [S]) -> Result<Request<'a
     ensures refused { FailsBy (line.faults_of (map S.text words.entry.now)) result }
 {
     let matches = pacboard(alloc)?.try_get_matches_from(words)?;
-    refuse_conflict(alloc, &matches)?;
-    match request(&matches) {
+    asked(alloc, &matches)
+}
+
+/// What words ask for in which `clap` finds no fault, unless they are refused.
+fn asked<'a>(alloc: Global, matches: &ArgMatches<'a>) -> Result<Request<'a>, Error>
+    ensures asked { IfOk result (λ request. option_and_then line.asked_command (subcommand_rows_of matches.now)
+        ≡ Some (command_line_proofs.told_request request)) }
+    ensures refused { FailsBy (line.own_faults_of (subcommand_rows_of matches.now)) result }
+{
+    refuse_conflict(alloc, matches)?;
+    match request(matches) {
         Some(request) => Ok(request),
         None => Err(lack(alloc)?),
     }

@@ -1,11 +1,7 @@
 use Rattle.pac_run_files.proofs.Common.{FindsLink, Follows, List, PlaceReached, Rest, name_parts, rules, string_bytes, subst, ℕ, ◌≡◌}
 use Rattle.pac_run_files.specs.declared.links.Rest.TheVariants as rest
-use Rattle.pac_run_files.proofs.Following.{lead-end, lead-out, lead-none, link-on, along-none, along-zero}
+use Rattle.pac_run_files.proofs.Following.{lead-end, lead-out, lead-none, link-on}
 use Rattle.pac_run_files.proofs.links.lead.Goals as goal
-use Rattle.pac_run_files.proofs.links.lead.Goals.{
-  then-links-eq0-via-then-links-eq0,
-  then-links-eq0-via-else-links-eq0+then-not-begins_below,
-}
 
 -- what following leaves, as it is
 as-rest : (finds : FindsLink) (old new : PlaceReached) (text told : List ℕ) (one other : Rest) → told ≡ text → one ≡ other
@@ -32,8 +28,8 @@ returns-in-Out g c =
     (as-rest finds c.links.place c.follow.new.place text c.as_str.result.now c.in_ok-follow.field-0 rest.Out c.as_str.ensures.value
     c.in-Out.is c.in_ok-follow.ensures)
 
-pub returns-then-links-eq0 : goal.returns-then-links-eq0
-returns-then-links-eq0 g c =
+pub returns-in_default : goal.returns-in_default
+returns-in_default g c =
     let finds = (g.D.FileSystem.finds c.args.disk.now).link in
     let text = string_bytes c.links.text in
     let follows = as-rest finds c.links.place c.follow.new.place text c.as_str.result.now c.in_ok-follow.field-0 (rest.Link
@@ -41,11 +37,7 @@ returns-then-links-eq0 g c =
     c.as_str.ensures.value c.in-Link.is c.in_ok-follow.ensures in
     lead-none finds c.args.folder.now c.args.name.now c.links.place c.follow.new.place (string_bytes c.links.text) c.links.links
     c.links.invariant c.in-Link.link c.in-Link.more follows
-    (elim c.then-links-eq0.branch [
-      | then-links-eq0-via-then-links-eq0 w ↦ along-zero _ _ _ _ w.if-links-eq0.true
-      | then-links-eq0-via-else-links-eq0+then-not-begins_below w ↦ along-none c.links.links _ (string_bytes c.in-Link.link) _ (search
-          rules)
-    ])
+    (search rules)
 
 pub links-preserved : goal.links-preserved
 links-preserved g c =
@@ -55,5 +47,5 @@ links-preserved g c =
     c.in-Link.link c.in-Link.more)
     c.as_str.ensures.value c.in-Link.is c.in_ok-follow.ensures in
     link-on finds c.args.folder.now c.args.name.now c.links.place c.follow.new.place (string_bytes c.links.text) c.links.links
-    c.links.invariant c.in-Link.link c.in-Link.more follows (string_bytes c.in_ok-text-in-Link.text) c.in_ok-text-in-Link.ensures
-    (search rules) (search rules)
+    c.links.invariant c.in-Link.link c.in-Link.more follows (string_bytes c.in_ok-text-in-Link.text) _
+    c.in_ok-text-in-Link.ensures (search rules)

@@ -1,2 +1,0 @@
-pub returns : Rattle.pac_run_options.proofs.command.dip_conflict.Goals.returns
-returns c = c.error.ensures.kind
