@@ -1,4 +1,4 @@
-"""The crates that are C libraries, built by the kit: shared by hosts/build, hosts/aarch64 and tools/check/built-again."""
+"""The crates that are C libraries, built by the kit: shared by hosts/build and tools/check/built-again."""
 import contextlib
 import os
 import pathlib
@@ -14,7 +14,7 @@ import time
 HERE = pathlib.Path(__file__).resolve().parent
 ROOT = HERE.parent
 OUT = ROOT / "hosts/out"
-KEPT = OUT / "checked"  # what the kit's checks of each crate keep: the library of each processor rests on the same proofs
+KEPT = OUT / "checked"  # what the kit's checks of each crate keep
 LINE = re.compile(r"(\w+)( +staticlib)?(?: +[\w=]+)*: *(.*)")
 TOLD = 2  # seconds between two lines about what goes on
 AFTER, BESIDE = "--after-ci", "--beside-ci"  # the words that say that `rt ci` has just proved these very files, or is proving them
@@ -98,11 +98,10 @@ def kit():
     return pathlib.Path(shutil.which("rt") or "rt").resolve().parent.parent
 
 
-def lay_kit(to, kept, target=""):
+def lay_kit(to, kept):
     """Lays a copy of the kit into a folder, its files by links, and answers the copy's `rt`.
 
-    The copy proves the same, and hands its C compiler the same program, as LLVM's bitcode, which is kept in a file. A target is another
-    processor for which the copy checks and compiles: `rattle` knows it, but `rt` hands on none.
+    The copy proves the same, and hands its C compiler the same program, as LLVM's bitcode, which is kept in a file.
     """
     whole, compiler = kit(), "toolchain/bin/clang"
     for file in [*whole.iterdir(), *(whole / "bin").iterdir(), *(whole / "toolchain").iterdir(), *(whole / "toolchain/bin").iterdir()]:
@@ -110,10 +109,6 @@ def lay_kit(to, kept, target=""):
         (to / name).parent.mkdir(parents=True, exist_ok=True)
         if str(name) in ("bin/rt", "bin/rtlib.py"):
             shutil.copy(file, to / name)  # (they look for the rest beside themselves)
-        elif str(name) == "bin/rattle" and target:
-            handed = f'case "$1" in check | build) set -- "$@" --target {shlex.quote(target)} ;; esac'
-            (to / name).write_text(f'#!/bin/sh\n{handed}\nexec {shlex.quote(str(file))} "$@"\n')
-            (to / name).chmod(0o755)
         elif str(name) not in ("bin", "toolchain", "toolchain/bin", compiler):
             (to / name).symlink_to(file)
     keep = f"[ ! -f module.bc ] || cp module.bc {shlex.quote(str(kept))}"
@@ -182,11 +177,10 @@ def jobs(proof):
     return ["--jobs", "1"] if proof.is_of_ci else []
 
 
-def build(name, to, proof, target=""):
-    """Builds a static library in a copy of it and of all below it, and takes the file that it leaves.
+def build(name, proof):
+    """Builds a static library in a copy of it and of all below it, and takes the file that it leaves, and the bitcode of which the compiler made it.
 
-    What an earlier build has checked, and nothing has changed since, isn't checked again. Beside the file, with the end .bc, stands the bitcode
-    of which the compiler made it. A target is that of another processor.
+    What an earlier build has checked, and nothing has changed since, isn't checked again.
     """
     table = crates()
     if not table.get(name, (False, []))[0]:
@@ -194,11 +188,11 @@ def build(name, to, proof, target=""):
     with laid(table, name, "staticlib", proof) as folder:
         crate = folder / "crates" / name
         take_kept(name, crate / "out")
-        (OUT / to).parent.mkdir(parents=True, exist_ok=True)
-        run(lay_kit(folder / "kit", (OUT / to).with_suffix(".bc"), target), crate, "lib", *jobs(proof))
-        shutil.copy(crate / f"out/lib{name}.a", OUT / to)
+        OUT.mkdir(exist_ok=True)
+        run(lay_kit(folder / "kit", OUT / f"lib{name}.bc"), crate, "lib", *jobs(proof))
+        made = pathlib.Path(shutil.copy(crate / f"out/lib{name}.a", OUT))
         keep(name, crate / "out")
-    print(f"{OUT / to}: {(OUT / to).stat().st_size:,} bytes", flush=True)
+    print(f"{made}: {made.stat().st_size:,} bytes", flush=True)
 
 
 def add_heap(to):

@@ -21,7 +21,7 @@ GROUP = re.compile(r"(attributes (#\d+) = \{ )")
 RANGE = re.compile(r"^(!\d+) = !\{i(\d+) (-?\d+), i\d+ (-?\d+)\}$")
 LOADED = re.compile(r"^  (%\S+) = load i(\d+), .*?, !range (!\d+)")
 HOLDS = """
-define internal void @"holds.i{bits}"(i{bits} %value, i{bits} %low, i{bits} %count) {{
+define internal void @"holds.i{bits}"(i{bits} %value, i{bits} %low, i{bits} %count) alwaysinline {{
   %offset = sub i{bits} %value, %low
   %is_so = icmp ult i{bits} %offset, %count
   br i1 %is_so, label %yes, label %no
@@ -189,7 +189,8 @@ def with_attribute(lines: list[str], attribute: str) -> list[str]:
 
 def with_checks(lines: list[str]) -> tuple[list[str], int]:
     """The text with a trap wherever the compiler may take for granted what would be undefined: that a value which is read is one of its
-    type, as 0 or 1 of a `bool`, and that a place isn't reached. And how many of these there are."""
+    type, as 0 or 1 of a `bool`, and that a place isn't reached. And how many of these there are. A check is inlined, since some
+    stand in loops over each pixel."""
     ranges = {found[1]: (int(found[3]), int(found[4])) for line in lines if (found := RANGE.match(line))}
     out: list[str] = []
     widths, count = set[str](), 0

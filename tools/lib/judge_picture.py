@@ -2,11 +2,13 @@
 pictures against it, and bench/beside_mame.py draws by its rows what MAME's board has in its RAM. This was written from these pages, without
 a look at the program; but that the three high bits of a palette's byte aren't wired is from the schematics.
 """
-from collections.abc import Mapping
+import functools
+from collections.abc import Iterable, Mapping
 
 WIDTH, HEIGHT = 288, 224  # pixels
 COLUMNS, ROWS = 36, 28  # cells
 ASIDE = {0: 0x3C2, 1: 0x3E2, 34: 0x002, 35: 0x022}  # the columns that stand beside the others, and the place of each one's first cell
+LINES = 4096  # of tiles, and of sprites, that are kept: of the 2,048 and 1,024 of a ROM each is drawn many times
 SPRITE_COLUMNS = [8, 16, 24, 0]  # where four columns of pixels of a sprite begin, from the left
 
 
@@ -20,20 +22,23 @@ def value(byte: int, x: int) -> int:
     return (byte >> 7 - x & 1) * 2 + (byte >> 3 - x & 1)
 
 
-def tile_line(rom: bytes, code: int, y: int) -> list[int]:
+@functools.lru_cache(LINES)
+def tile_line(rom: bytes, code: int, y: int) -> tuple[int, ...]:
     """The eight values of a line of a tile."""
-    return [value(rom[16 * code + y + (8 if x < 4 else 0)], x % 4) for x in range(8)]
+    return tuple(value(rom[16 * code + y + (8 if x < 4 else 0)], x % 4) for x in range(8))
 
 
-def sprite_line(rom: bytes, code: int, y: int) -> list[int]:
+@functools.lru_cache(LINES)
+def sprite_line(rom: bytes, code: int, y: int) -> tuple[int, ...]:
     """The sixteen values of a line of a sprite."""
     first = 64 * code + 32 * (y // 8) + y % 8
-    return [value(rom[first + SPRITE_COLUMNS[x // 4]], x % 4) for x in range(16)]
+    return tuple(value(rom[first + SPRITE_COLUMNS[x // 4]], x % 4) for x in range(16))
 
 
-def numbers(lookup: bytes, palette: int, values: list[int]) -> list[int]:
+def numbers(lookup: bytes, palette: int, values: Iterable[int]) -> list[int]:
     """The colour numbers of values in a palette, by the low five bits of its byte."""
-    return [lookup[4 * (palette % 32) + one] % 16 for one in values]
+    first = 4 * (palette % 32)
+    return [lookup[first + one] % 16 for one in values]
 
 
 def put_cells(line: bytearray, y: int, roms: Mapping[str, bytes], tile_ram: bytes, colour_ram: bytes) -> None:

@@ -87,7 +87,13 @@ def painted(shown: Iterable[Sequence[Any]], names: Sequence[str] = ()) -> bytes:
 def coloured(picture: bytes, levels: Iterable[Iterable[int]], after: bytes = b"") -> bytes:
     """The bytes of red, green and blue of colour numbers, with some after those of each pixel."""
     pixels = [bytes(level) + after for level in levels]
-    return b"".join([pixels[number] for number in picture])
+    if max(picture, default=0) >= len(pixels):
+        raise LookupError("a pixel's number is none of a colour")
+    size = len(pixels[0])
+    out = bytearray(size * len(picture))
+    for at in range(size):
+        out[at::size] = picture.translate(bytes(pixel[at] for pixel in pixels).ljust(256, b"\0"))
+    return bytes(out)
 
 
 def wrong_of_picture(picture: bytes, wanted: bytes, size: int = 1) -> str:
