@@ -156,7 +156,9 @@ fn has_box(boxes: u64, k: u8) -> bool
     (boxes >> (2 * k)) % 2 == 1
 }
 
-/// Paints the eight sprites over line y of the picture, whose boxes are told by bits: the first is in front of all, so it comes last.
+/// Paints the eight sprites over line y of the picture, whose boxes are told by bits: the first is in front of all, so it comes last. A
+/// call, since most lines have no sprite.
+#[inline(never)]
 fn paint_sprites(graphics: &Graphics, screen: &Screen<'_>, boxes: u64, y: u8, out: &mut [u8; WIDTH])
     requires { AreBoxes boxes screen.now y }
     ensures dots { (x : ℕ) → x < tile.width → slice_index out.new x
@@ -170,7 +172,7 @@ fn paint_sprites(graphics: &Graphics, screen: &Screen<'_>, boxes: u64, y: u8, ou
 }
 
 /// Paints the eight sprites over line y of the picture, where the box of one of them has it.
-#[inline]
+#[inline(always)]
 pub(crate) fn paint_unless_none(
     graphics: &Graphics,
     screen: &Screen<'_>,
