@@ -1,7 +1,7 @@
 //! What a run plays, made from what it is given. All of its memory is found here.
 
-ghost use Rattle.std.specs.Prelude.{◌≡◌, ℕ, length, option_map, option_copied, IfErr, IfOk, IfSome};
-ghost use Rattle.std.specs.Prelude.{Err, List, Ok, Option};
+ghost use Rattle.std.specs.Prelude.{◌≡◌, ℕ, length, option_map, option_copied, List, Option};
+ghost use Rattle.std.specs.Prelude.{Err, IfErr, IfOk, IfSome, Ok};
 ghost use Rattle.pac_board_course.specs.Script.{script_of};
 ghost use Rattle.pac_asm.specs.Assembled.{Assembled};
 ghost use Rattle.pac_board_course.specs.RomParts.{IsWhole, program_size};
@@ -123,11 +123,14 @@ fn program_and_set(
     inputs: &RunInputs,
     set: &mut RomSet,
 ) -> Result<Option<Program>, RunFault>
-    ensures program { IfOk result (λ program. program_in (option_copied inputs.now.source) ≡ Ok program) }
-    ensures set { IfOk result (λ program. set_in inputs.now.manifest.now inputs.now.parts.now program ≡ Ok set.new) }
+    ensures program { IfOk result (λ program.
+        program_in (option_copied inputs.now.source) ≡ Ok program) }
+    ensures set { IfOk result (λ program.
+        set_in inputs.now.manifest.now inputs.now.parts.now program ≡ Ok set.new) }
     ensures whole { IfOk result (λ _. IsWhole set.new) }
     ensures lie { IfOk result LieIn }
-    ensures refused { (from : Option (List ℕ)) → IfErr result (λ fault. Prepares inputs.now from (Err fault)) }
+    ensures refused { (from : Option (List ℕ))
+        → IfErr result (λ fault. Prepares inputs.now from (Err fault)) }
 {
     let program = program(alloc, inputs.source)?;
     put_set(alloc, inputs.manifest, inputs.parts, &program, set)?;
@@ -141,10 +144,13 @@ fn begun(
     from: Option<&[u8]>,
     set: &RomSet,
 ) -> Result<(Box<Board>, Script, Image), RunFault>
-    ensures script { IfOk result (λ begun. script_told (script_of inputs.now.script.now) ≡ Ok begun.1) }
+    ensures script { IfOk result (λ begun.
+        script_told (script_of inputs.now.script.now) ≡ Ok begun.1) }
     ensures board { IfOk result (λ begun. IsStarted
-        (IsFirstBoard set.now inputs.now.dip begun.1 (option_copied from.entry)) set.now begun.1 begun.0.value) }
-    ensures refused { (program : Option Assembled) → program_in (option_copied inputs.now.source) ≡ Ok program
+        (IsFirstBoard set.now inputs.now.dip begun.1 (option_copied from.entry))
+        set.now begun.1 begun.0.value) }
+    ensures refused { (program : Option Assembled)
+        → program_in (option_copied inputs.now.source) ≡ Ok program
         → set_in inputs.now.manifest.now inputs.now.parts.now program ≡ Ok set.now
         → IfErr result (λ fault. Prepares inputs.now (option_copied from.entry) (Err fault)) }
 {

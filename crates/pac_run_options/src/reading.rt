@@ -29,7 +29,8 @@ pub fn options<'a, S: AsStr>(alloc: Global, words: &'a [S]) -> Result<Request<'a
 
 /// What words ask for in which `clap` finds no fault, unless they are refused.
 fn asked<'a>(alloc: Global, matches: &ArgMatches<'a>) -> Result<Request<'a>, Error>
-    ensures asked { IfOk result (λ request. option_and_then line.asked_command (subcommand_rows_of matches.now)
+    ensures asked { IfOk result (λ request.
+        option_and_then line.asked_command (subcommand_rows_of matches.now)
         ≡ Some (command_line_proofs.told_request request)) }
     ensures refused { FailsBy (line.own_faults_of (subcommand_rows_of matches.now)) result }
 {
