@@ -14,6 +14,7 @@ ghost use Rattle.pac_picture.specs.Strips.{AreLike, IsTwin};
 use crate::graphics::{Graphics, TilePattern};
 use crate::painting::put_numbers;
 use crate::size::{COLUMNS, RowBytes, WIDTH};
+use pac_num::word;
 use std::simd::prelude::*;
 
 /// The places of two cells each that a row has.
@@ -83,6 +84,18 @@ fn put_twin(lines: &mut RowLines, place: usize, twin: &Twin)
     }
 }
 
+/// Whether the two bytes at a place are the two to their left: both are compared at once, as one number.
+#[inline(always)]
+fn is_like_left(bytes: &RowBytes, place: usize) -> bool
+    requires above { 1 ≤ place }
+    requires below { place < 18 }
+    ensures { result ≡ true → AreLike bytes.now place }
+{
+    let first = 2 * place;
+    let before = word(bytes[first - 2], bytes[first - 1]);
+    word(bytes[first], bytes[first + 1]) == before
+}
+
 /// Whether the two cells at a place have the tiles and the colours of the two to their left.
 #[inline(always)]
 fn are_like_left(tiles: &RowBytes, colours: &RowBytes, place: usize) -> bool
@@ -91,12 +104,7 @@ fn are_like_left(tiles: &RowBytes, colours: &RowBytes, place: usize) -> bool
     ensures tiles { result ≡ true → AreLike tiles.now place }
     ensures colours { result ≡ true → AreLike colours.now place }
 {
-    let first = 2 * place;
-    place > 0
-        && tiles[first] == tiles[first - 2]
-        && tiles[first + 1] == tiles[first - 1]
-        && colours[first] == colours[first - 2]
-        && colours[first + 1] == colours[first - 1]
+    place > 0 && is_like_left(tiles, place) && is_like_left(colours, place)
 }
 
 /// The second of the two cells at a place, which is often like the first.
