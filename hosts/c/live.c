@@ -83,6 +83,25 @@ static uint32_t below(pair *it, uint32_t bound)
     return (uint32_t)(it->random >> 16) % bound;
 }
 
+/* The product of two of them; C leaves open which part of an expression is worked out first, so no other expression has two. */
+static uint32_t product(pair *it, uint32_t first, uint32_t second)
+{
+    uint32_t factor = below(it, first);
+    return factor * below(it, second);
+}
+
+/* Makes a byte any but 0. */
+static void mark(pair *it, uint8_t *byte)
+{
+    *byte = (uint8_t)(1 + below(it, 255));
+}
+
+/* Changes a bit of a byte. */
+static void toggle(pair *it, uint8_t *byte)
+{
+    *byte ^= (uint8_t)(1 << below(it, 8));
+}
+
 /* Bytes whose end is the end of a page, with a page after it that nobody may touch. */
 static void *guarded(size_t size)
 {
@@ -321,13 +340,13 @@ static void lay_places(pair *it)
     memset(it->places, kind == 0 ? 1 + (int)below(it, 255) : 0, PLACES);
     it->places[PLACES - 1] |= kind == 1;
     while (kind == 2 && left-- > 0)
-        it->places[below(it, PLACES)] = (uint8_t)(1 + below(it, 255));
+        mark(it, &it->places[below(it, PLACES)]);
     if (kind > 3 && pac_live_put(&it->stepped, it->roms, PAC_ROMS_SIZE, &it->block) == PAC_DONE)
         while (left-- > 0) {
             for (uint32_t step = below(it, 40); step > 0 && pac_live_step(&it->stepped, given, 2, &part) == PAC_DONE; step--)
                 continue;
             if (pac_live_registers(&it->stepped, &now) == PAC_DONE)
-                it->places[now.pc] = (uint8_t)(1 + below(it, 255));
+                mark(it, &it->places[now.pc]);
         }
 }
 
@@ -340,7 +359,7 @@ static void lay_watched(pair *it)
     for (uint32_t at = kind < 5 ? begins[kind] : 1; at <= (kind < 5 ? ends[kind] : 0u); at++)
         it->watched[at] = (uint8_t)below(it, 8);
     while (kind > 5 && left-- > 0)
-        it->watched[kind == 6 ? below(it, PLACES) : 0x4000 + below(it, 0x1000)] = (uint8_t)(1 + below(it, 255));
+        mark(it, &it->watched[kind == 6 ? below(it, PLACES) : 0x4000 + below(it, 0x1000)]);
 }
 
 /* Goes on by some calls one after another, mostly with room enough and a set of the right length. */
@@ -349,9 +368,9 @@ static void until_both(pair *it)
     pac_live handle = it->live;
     lay_places(it), lay_watched(it);
     for (uint32_t left = 1 + below(it, 16); left > 0 && number(&it->block, PAC_AT_TIME, 8) < MOST_ASKED * 3; left--) {
-        size_t room = below(it, 4) != 0 ? ROOM : below(it, 6), length = below(it, 16) != 0 ? PLACES : below(it, 2) * below(it, PLACES + 2);
+        size_t room = below(it, 4) != 0 ? ROOM : below(it, 6), length = below(it, 16) != 0 ? PLACES : product(it, 2, PLACES + 2);
         size_t watched = below(it, 2) == 0 ? PLACES : below(it, 40) != 0 ? 0 : below(it, PLACES + 2);
-        uint32_t ticks = below(it, 12) != 0 ? below(it, 1500) : below(it, 3) * below(it, watched != 0 ? 6000 : 60000);
+        uint32_t ticks = below(it, 12) != 0 ? below(it, 1500) : product(it, 3, watched != 0 ? 6000 : 60000);
         ticks = below(it, 200) != 0 || watched != 0 ? ticks : UINT32_MAX;
         pac_until *told = &it->by_live.until;
         uint32_t code = pac_live_until(&it->live, ticks, it->places, length, it->watched, watched, it->by_live.samples, room, told);
@@ -382,7 +401,7 @@ static void change(pair *it, pac_board *board)
     case 0:
     case 1:
         for (uint32_t left = 1 + below(it, 8); left > 0; left--)
-            board->bytes[below(it, below(it, 2) ? PAC_BOARD_SIZE : PAC_AT_PICTURE)] ^= (uint8_t)(1 << below(it, 8));
+            toggle(it, &board->bytes[below(it, below(it, 2) ? PAC_BOARD_SIZE : PAC_AT_PICTURE)]);
         break;
     case 2:
     case 3:
@@ -409,7 +428,7 @@ static void put_both(pair *it)
     memcpy(roms, it->roms, sizeof roms);
     change(it, &board);
     if (below(it, 4) == 0)
-        roms[below(it, PAC_ROMS_SIZE)] ^= (uint8_t)(1 << below(it, 8));
+        toggle(it, &roms[below(it, PAC_ROMS_SIZE)]);
     pac_board judged = board;
     uint32_t wanted = length != PAC_ROMS_SIZE ? PAC_LENGTH : pac_hold(&judged, 0, 0);
     uint32_t code = pac_live_put(&it->live, roms, length, &board);
@@ -423,7 +442,7 @@ static void draw_both(pair *it)
 {
     pac_live handle = it->live;
     size_t length = below(it, 4) != 0 ? PAC_RGBA_SIZE : below(it, PAC_RGBA_SIZE);
-    uint8_t order = (uint8_t)(below(it, 3) * below(it, 256)), *rgba = it->by_block.rgba;
+    uint8_t order = (uint8_t)product(it, 3, 256), *rgba = it->by_block.rgba;
     uint32_t code = pac_live_draw(&it->live, order, it->by_live.rgba, length), wanted = pac_draw(&it->block, it->roms, PAC_ROMS_SIZE, rgba, length);
     for (size_t at = 0; wanted == PAC_DONE && order != PAC_RGBA && at < PAC_RGBA_SIZE; at += 4) {
         uint8_t red = rgba[at];
@@ -571,9 +590,12 @@ static uint32_t part_of(pair *it, int16_t *samples, size_t room, uint32_t *left,
         code = pac_live_exec(&it->live, asked, samples, room, &part);
         *left -= asked;
         break;
-    default:
-        code = pac_live_until(&it->live, below(it, 2500), it->places, below(it, 2) * PLACES, it->watched, below(it, 2) * PLACES, samples,
-                              below(it, 2) ? room : below(it, 40), &told);
+    default: {
+        uint32_t ticks = below(it, 2500);
+        size_t length = below(it, 2) * PLACES, watched = below(it, 2) * PLACES;
+        size_t left_room = below(it, 2) ? room : below(it, 40);
+        code = pac_live_until(&it->live, ticks, it->places, length, it->watched, watched, samples, left_room, &told);
+    }
     }
     *given = part.samples + told.samples;
     return code;
