@@ -83,7 +83,7 @@ static uint32_t below(pair *it, uint32_t bound)
     return (uint32_t)(it->random >> 16) % bound;
 }
 
-/* The product of two of them; C leaves open which part of an expression is worked out first, so no other expression has two. */
+/* The product of two of them, the first one drawn first: C leaves open which factor is worked out before the other. */
 static uint32_t product(pair *it, uint32_t first, uint32_t second)
 {
     uint32_t factor = below(it, first);

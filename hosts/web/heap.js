@@ -1,4 +1,4 @@
-// A heap in a module's own memory, for the three calls that hosts/web/retarget.py gives it in the place of C's malloc, realloc and free.
+// A heap in a module's own memory, for the three calls that hosts/retarget.py gives it in the place of C's malloc, realloc and free.
 //
 // Blocks are of sizes in steps, four to each power of two, and each has 16 bytes before it that tell its size's number. A block that is given
 // back waits in the list of its size. The contracts that the module takes for granted are those of the kit's heap.rt: a block lies at a
