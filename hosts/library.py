@@ -40,6 +40,40 @@ class Proof:
             time.sleep(TOLD)
 
 
+    def take_checked(self, crate, to):
+        """Copies what `rt ci` has checked of a program while its compilers take it from there; False where it's over without, or isn't under way.
+
+        It has the sums of all that it stands on, which the kit compares with what it compiles.
+        """
+        begun, is_over = time.monotonic(), not self.log
+        while not is_over:
+            is_over = re.search(rf"^rt: {crate} (?:proved$|is kept: )|^\d+ passed, \d+ failed", self.log.read_text(errors="replace"), re.M)
+            if any(copied(folder, to) for folder in handed_on(crate)):
+                return True
+            print(f"rt ci has {crate} to check yet, {time.monotonic() - begun:.0f} s", file=sys.stderr, flush=True)
+            time.sleep(TOLD)
+        return False
+
+
+def handed_on(crate):
+    """The folders with a crate of this repository, checked, that the kit's compilers are taking now: as their command lines say."""
+    for process in pathlib.Path("/proc").glob("[0-9]*"):
+        with contextlib.suppress(OSError):
+            words = (process / "cmdline").read_bytes().decode(errors="replace").split("\0")
+            if "--crate-checked" in words[:-1] and (process / "cwd").resolve() == ROOT / "crates" / crate:
+                yield pathlib.Path(words[words.index("--crate-checked") + 1])
+
+
+def copied(folder, to):
+    """Whether a folder could be copied: another process may be taking it away."""
+    try:
+        shutil.copytree(folder, to)
+    except (OSError, shutil.Error):
+        shutil.rmtree(to, ignore_errors=True)
+        return False
+    return True
+
+
 def proof_in(words):
     """What the words of a command line say of the proof, and the other words."""
     if BESIDE in words[:-1]:
@@ -115,6 +149,25 @@ def lay_kit(to, kept):
     (to / compiler).write_text(f'#!/bin/sh\n{keep}\nexec {shlex.quote(str(whole / compiler))} "$@"\n')
     (to / compiler).chmod(0o755)
     return to / "bin/rt"
+
+
+def compile_checked(folder, crate, checked):
+    """Compiles a program that is checked, in a folder where it's laid over a copy of the kit, and links it, as `rt ci` does."""
+    sys.path.insert(0, os.path.dirname(os.path.realpath(shutil.which("rt") or "rt")))
+    import rtlib  # type: ignore[import]  # pylint: disable=import-error,import-outside-toplevel
+
+    os.chdir(folder)
+    words = next(it for it in rtlib.crates_below(str(folder)) if it.name == crate).words(["--jobs", "1"], keeps=False)
+    for flag in ("--logic-built", "--jobs"):  # (they are of a check alone)
+        del words[words.index(flag) : words.index(flag) + 2]
+    copy, at, made = folder / "kit", folder / "crates" / crate, f"out/{crate}"
+    words = [word.replace(f"{kit()}/", f"{copy}/") for word in words]
+    (at / "out").mkdir(exist_ok=True)
+    toolchain = ["--toolchain", copy / "toolchain"]
+    run(copy / "bin/rattle", at, "build", *words, "--crate-checked", checked, *toolchain, "--backend", "llvm", "-o", f"{made}.o")
+    system = [copy / "c/libos_c.a", copy / "c/liblibc_c.a"]
+    run(copy / "bin/rattle-link", at, "--target", "x86_64-unknown-linux-gnu", *toolchain, "-o", made, f"{made}.o", *system)
+    run(at / made, at, "--help")
 
 
 def run(tool, folder, *words):
