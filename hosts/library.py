@@ -47,7 +47,8 @@ class Proof:
         """
         begun, is_over = time.monotonic(), not self.log
         while not is_over:
-            is_over = re.search(rf"^rt: {crate} (?:proved$|is kept: )|^\d+ passed, \d+ failed", self.log.read_text(errors="replace"), re.M)
+            said = self.log.read_text(errors="replace")
+            is_over = bool(re.search(rf"^rt: {crate} (?:proved$|is kept: )|^\d+ passed, \d+ failed", said, re.M))
             if any(copied(folder, to) for folder in handed_on(crate)):
                 return True
             print(f"rt ci has {crate} to check yet, {time.monotonic() - begun:.0f} s", file=sys.stderr, flush=True)
