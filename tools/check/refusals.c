@@ -4,18 +4,20 @@
  * to tools/check/refusals, which looks at what it left and answers; then the files are put back as they were, and the parent goes on as if
  * nothing had been. So one run tries every refusal of a kind, until there is none left. Memory that is asked for after the first byte
  * of an output is told as the status -1, and blocks that are still out at a run's end as -2. Only calls from the program's own code count,
- * not those within the C library. Where writes are interrupted no call is refused: each write fails with EINTR twice, and is done at the third
- * try. An output that takes its place once it is whole has a draft, which the child renames or removes: it stays under a name that ends
- * with .kept, too, by which tools/check/refusals sees what it took, until the parent has it again. Where growth is refused, every call for
- * memory is, whoever makes it, from the first byte of an output on, and the kernel gives the process no more: brk, mmap and mremap fail.
+ * not those within the C library. After a refusal short writes are answered one by one, but done many at a time: what is
+ * left is the same, and writes of 7 bytes took most of the time. Where writes are interrupted no call is refused: each write fails with
+ * EINTR twice, and is done at the third try. An output that takes its place once it is whole has a draft, which the child renames or
+ * removes: it stays under a name that ends with .kept, too, by which tools/check/refusals sees what it took, until the parent has it again.
+ * Where growth is refused, every call for memory is, whoever makes it, from the first byte of an output on, and the kernel gives the process
+ * no more: brk, mmap and mremap fail.
  */
 #define _GNU_SOURCE
 #include <errno.h>
 #include <fcntl.h>
-#include <limits.h>
 #include <linux/filter.h>
 #include <linux/seccomp.h>
 #include <link.h>
+#include <stdarg.h>
 #include <stddef.h>
 #include <stdio.h>
 #include <stdlib.h>
@@ -28,7 +30,8 @@
 #include <sys/wait.h>
 #include <unistd.h>
 
-enum { DESCRIPTORS = 64, ONE = '1', REST = 'r', WRITE = 'w', INTERRUPTED = 'i', GROWTH = 'g', TRIES = 3, LATE = -1, OUT = -2 };
+enum { DESCRIPTORS = 64, LONGEST = 256, HELD = 4096, FEW = 7 }; /* the most descriptors; bytes of a path, of what is held, and of short writes */
+enum { ONE = '1', REST = 'r', WRITE = 'w', INTERRUPTED = 'i', GROWTH = 'g', TRIES = 3, LATE = -1, OUT = -2 };
 
 void *__libc_malloc(size_t size);
 void *__libc_realloc(void *block, size_t size);
@@ -37,24 +40,9 @@ void __libc_free(void *block);
 static ElfW(Addr) first, last;    /* the program's own code */
 static int kind, talk;            /* what is refused: a call for memory, it and all after it, or a write; and to whom it is told */
 static unsigned tries;            /* how often a write was tried, where each is interrupted at first */
-static const char *output;        /* the file whose writes are refused */
 static size_t most = (size_t)-1;  /* the bytes that a write takes */
 static int refused, begun;        /* whether a call was refused, and whether an output has a byte */
 static long blocks;               /* how many blocks the program has been given and hasn't given back */
-
-__attribute__((constructor)) static void prepare(void)
-{
-    const ElfW(Phdr) *header = (const void *)getauxval(AT_PHDR);
-    ElfW(Addr) base = (ElfW(Addr))header - header->p_vaddr;
-    for (unsigned long left = getauxval(AT_PHNUM); left > 0; left--, header++)
-        if (header->p_type == PT_LOAD && header->p_flags & PF_X)
-            first = base + header->p_vaddr, last = first + header->p_memsz;
-    talk = atoi(getenv("REFUSALS_TALK"));
-    kind = *getenv("REFUSALS_KIND");
-    output = getenv("REFUSALS_OUTPUT");
-    if (*getenv("REFUSALS_MOST"))
-        most = atoi(getenv("REFUSALS_MOST"));
-}
 
 /* Tells a status, and waits for the answer. */
 static void tell(int status)
@@ -64,7 +52,10 @@ static void tell(int status)
         _exit(120);
 }
 
-static char drafts[DESCRIPTORS][PATH_MAX], kept[PATH_MAX + sizeof ".kept"]; /* the paths of drafts, by their descriptors; and another name of one */
+/* What is known of the program's descriptors since they were opened: whether one is open, whether it's that of the output whose writes are
+ * refused, and the path of a draft. The kernel would have to be asked at each refusal, of each of them. */
+static char is_open[DESCRIPTORS] = {1, 1, 1}, is_output[DESCRIPTORS], drafts[DESCRIPTORS][LONGEST], kept[LONGEST + sizeof ".kept"];
+static const char *output; /* the path of that output */
 
 /* Writes the other name of a draft. */
 static void name_kept(const char *path)
@@ -81,27 +72,34 @@ static int has_path(int file, const char *path)
     return fstat(file, &here) == 0 && stat(path, &there) == 0 && here.st_dev == there.st_dev && here.st_ino == there.st_ino;
 }
 
-/* Gives each draft another name, which its removal leaves. The kernel tells no path of one that has been put back: that is known by then. */
+__attribute__((constructor)) static void prepare(void)
+{
+    const ElfW(Phdr) *header = (const void *)getauxval(AT_PHDR);
+    ElfW(Addr) base = (ElfW(Addr))header - header->p_vaddr;
+    for (unsigned long left = getauxval(AT_PHNUM); left > 0; left--, header++)
+        if (header->p_type == PT_LOAD && header->p_flags & PF_X)
+            first = base + header->p_vaddr, last = first + header->p_memsz;
+    talk = atoi(getenv("REFUSALS_TALK"));
+    kind = *getenv("REFUSALS_KIND");
+    output = getenv("REFUSALS_OUTPUT");
+    if (*getenv("REFUSALS_MOST"))
+        most = atoi(getenv("REFUSALS_MOST"));
+    for (int file = 0; file <= STDERR_FILENO; file++)
+        is_output[file] = has_path(file, output);
+}
+
+/* Gives each draft another name, which its removal leaves; one that has taken its place is none any more. */
 static void keep_drafts(void)
 {
     for (int file = 0; file < DESCRIPTORS; file++) {
-        char link_name[64];
-        if (fcntl(file, F_GETFD) < 0) { /* (most are closed) */
-            drafts[file][0] = 0;
+        if (drafts[file][0] == 0)
             continue;
-        }
-        if (!has_path(file, drafts[file])) {
-            snprintf(link_name, sizeof link_name, "/proc/self/fd/%d", file);
-            ssize_t length = readlink(link_name, drafts[file], PATH_MAX - 1);
-            drafts[file][length > 0 ? length : 0] = 0;
-        }
-        if (strstr(drafts[file], ".unfinished-") == NULL) {
-            drafts[file][0] = 0;
-            continue;
-        }
         name_kept(drafts[file]);
-        if (link(drafts[file], kept) != 0)
+        if (link(drafts[file], kept) == 0)
+            continue;
+        if (errno != ENOENT)
             _exit(123);
+        drafts[file][0] = 0;
     }
 }
 
@@ -129,7 +127,7 @@ static int is_refused(void)
     if (refused)
         return kind == REST;
     for (int file = 0; file < DESCRIPTORS; file++)
-        at[file] = lseek(file, 0, SEEK_CUR);
+        at[file] = is_open[file] ? lseek(file, 0, SEEK_CUR) : -1;
     keep_drafts();
     refused = 1;
     pid_t child = fork();
@@ -178,17 +176,13 @@ void *realloc(void *block, size_t size)
     return moved ? moved : (errno = ENOMEM, NULL);
 }
 
+/* After a refused write of a few bytes a block is counted alone: to give back what the parent has, too, the kernel has to copy its pages, most
+ * of all of a debugger's history. The same ways to the end give their blocks back where writes take more. */
 void free(void *block)
 {
     blocks -= block && is_own(__builtin_return_address(0));
-    __libc_free(block);
-}
-
-/* Tells blocks that are out where the program ends. */
-__attribute__((destructor)) static void finish(void)
-{
-    if (blocks != 0)
-        tell(OUT);
+    if (!refused || kind != WRITE || most > FEW)
+        __libc_free(block);
 }
 
 /* Has the kernel give this process no more memory. */
@@ -206,10 +200,67 @@ static void grow_no_more(void)
         _exit(122);
 }
 
-/* Whether a descriptor is that of the output whose writes are refused. */
-static int is_output(int file)
+static char held[HELD]; /* what short writes after a refusal have taken and the file hasn't */
+static size_t count_held;
+static int held_for; /* whose that is */
+
+/* Writes what is held. */
+static void put_held(void)
 {
-    return has_path(file, output);
+    if (count_held != 0 && syscall(SYS_write, held_for, held, count_held) != (ssize_t)count_held)
+        _exit(124);
+    count_held = 0;
+}
+
+/* Takes the first bytes of a write, which come to the file later: when it's another's turn, when a file is opened, cut
+ * or closed, or at the end. */
+static ssize_t hold(int file, const void *bytes, size_t count)
+{
+    if (file != held_for || count_held + count > HELD)
+        put_held();
+    held_for = file;
+    memcpy(held + count_held, bytes, count);
+    count_held += count;
+    return count;
+}
+
+/* Writes what is held, and tells blocks that are out, where the program ends. */
+__attribute__((destructor)) static void finish(void)
+{
+    put_held();
+    if (blocks != 0)
+        tell(OUT);
+}
+
+int open(const char *path, int flags, ...)
+{
+    va_list more;
+    va_start(more, flags);
+    put_held();
+    int file = (int)syscall(SYS_openat, AT_FDCWD, path, flags, flags & O_CREAT ? va_arg(more, int) : 0);
+    va_end(more);
+    if (file >= DESCRIPTORS || strlen(path) >= LONGEST)
+        _exit(125);
+    if (file >= 0) {
+        is_open[file] = 1;
+        is_output[file] = has_path(file, output);
+        strcpy(drafts[file], strstr(path, ".unfinished-") ? path : "");
+    }
+    return file;
+}
+
+int ftruncate(int file, off_t length)
+{
+    put_held();
+    return (int)syscall(SYS_ftruncate, file, length);
+}
+
+int close(int file)
+{
+    put_held();
+    if (file >= 0 && file < DESCRIPTORS)
+        is_open[file] = is_output[file] = drafts[file][0] = 0;
+    return (int)syscall(SYS_close, file);
 }
 
 ssize_t write(int file, const void *bytes, size_t count)
@@ -219,8 +270,11 @@ ssize_t write(int file, const void *bytes, size_t count)
     begun |= file != STDERR_FILENO;
     if (kind == INTERRUPTED && ++tries % TRIES != 0)
         return errno = EINTR, -1;
-    if (kind == WRITE && !refused && is_output(file) && is_refused())
+    if (kind == WRITE && !refused && file < DESCRIPTORS && is_output[file] && is_refused())
         return errno = ENOSPC, -1;
+    if (refused && count > most)
+        return hold(file, bytes, most);
+    put_held();
     return syscall(SYS_write, file, bytes, count < most ? count : most);
 }
 
