@@ -1,5 +1,6 @@
 """The crates that are C libraries, built by the kit: shared by hosts/build and tools/check/built-again."""
 import contextlib
+import importlib
 import os
 import pathlib
 import re
@@ -38,7 +39,6 @@ class Proof:
                 sys.exit(f"rt ci doesn't say that {min(missing)} is proved")
             print(f"rt ci has {len(missing)} crates to prove yet, {time.monotonic() - begun:.0f} s", file=sys.stderr, flush=True)
             time.sleep(TOLD)
-
 
     def take_checked(self, crate, to):
         """Copies what `rt ci` has checked of a program while its compilers take it from there; False where it's over without, or isn't under way.
@@ -118,9 +118,7 @@ def lay_crate(crate, to, is_proved=True):
 
 def stamp(folder):
     """Lets the kit take the libraries of a copy as they are: `rt ci` leaves them without the stamp that says of which files they are."""
-    sys.path.insert(0, os.path.dirname(os.path.realpath(shutil.which("rt") or "rt")))
-    import rtlib  # type: ignore[import]  # pylint: disable=import-error,import-outside-toplevel
-
+    rtlib = kit_module()
     os.chdir(folder)
     of_files, known = rtlib.Crate.stamp, {}
 
@@ -145,6 +143,12 @@ def kit():
     return pathlib.Path(shutil.which("rt") or "rt").resolve().parent.parent
 
 
+def kit_module():
+    """The module in which the kit's `rt` has what it knows of crates."""
+    sys.path.insert(0, str(kit() / "bin"))
+    return importlib.import_module("rtlib")
+
+
 def lay_kit(to, kept):
     """Lays a copy of the kit into a folder, its files by links, and answers the copy's `rt`.
 
@@ -166,9 +170,7 @@ def lay_kit(to, kept):
 
 def compile_checked(folder, crate, checked):
     """Compiles a program that is checked, in a folder where it's laid over a copy of the kit, and links it, as `rt ci` does."""
-    sys.path.insert(0, os.path.dirname(os.path.realpath(shutil.which("rt") or "rt")))
-    import rtlib  # type: ignore[import]  # pylint: disable=import-error,import-outside-toplevel
-
+    rtlib = kit_module()
     os.chdir(folder)
     words = next(it for it in rtlib.crates_below(str(folder)) if it.name == crate).words(["--jobs", "1"], keeps=False)
     for flag in ("--logic-built", "--jobs"):  # (they are of a check alone)
