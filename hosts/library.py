@@ -1,4 +1,4 @@
-"""The crates that are C libraries, built by the kit: shared by hosts/build and tools/check/built-again."""
+"""Crates built by the kit in a copy, as C libraries or programs: for hosts/build, bench/processor.py, tools/check/built-again and tools/check/hosts."""
 import contextlib
 import importlib
 import os
@@ -223,15 +223,18 @@ def take_kept(crate, built):
 
 
 @contextlib.contextmanager
-def laid(table, name, kind, proof):
+def laid(table, name, kind, proof, sources=None):
     """Lays a crate, as one of this kind, and all below it into another folder, which is there as long as it's needed: its crates.txt says which
-    kind it is, and the repository is left as it is."""
+    kind it is, and the repository is left as it is. One that isn't in `crates` has its sources named, each by what it's called there."""
     below = crates_below(table, name)
     proof.wait(below)
     with tempfile.TemporaryDirectory(prefix="hosts-") as room:
         folder = pathlib.Path(room).resolve()
-        for crate in [*below, name]:
+        for crate in [*below, *[name] * (not sources)]:
             lay_crate(crate, folder / "crates" / crate)
+        (folder / "crates" / name / "src").mkdir(parents=True, exist_ok=True)
+        for source, file in (sources or {}).items():
+            shutil.copy(file, folder / "crates" / name / "src" / source)
         lines = [f"{crate}: {' '.join(table[crate][1])}" for crate in table if crate in below]
         (folder / "crates.txt").write_text("\n".join([*lines, f"{f'{name} {kind}'.strip()}: {' '.join(table[name][1])}", ""]))
         shutil.copy(ROOT / "HANDLES", folder / "HANDLES")

@@ -130,7 +130,7 @@ class House:
         """The types and traits of all sources by their names."""
         found: dict[str, list[Source]] = {}
         for source in self.sources:
-            if source.kind in ("struct", "enum", "trait", "type") and not source.crate.startswith(("pac_test_", "pacbench")):
+            if source.kind in ("struct", "enum", "trait", "type") and not source.crate.startswith("pac_test_"):
                 found.setdefault(source.name, []).append(source)
         return found
 

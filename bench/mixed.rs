@@ -1,4 +1,4 @@
-//! The program that is measured, and sums in which the order tells. Plain Rust to compare with, `bench/bench.rs`, takes this very file.
+//! The program that is measured, and sums in which the order tells: for `bench.rs`, which is plain Rust, and `processor.rt.txt`, which is Rattle.
 
 /// The bytes of the mixed program, which `bench/mixed.asm` is the source of. What follows them in its ROM is 0.
 pub static PROGRAM: [u8; 299] = [
