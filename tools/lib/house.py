@@ -5,6 +5,7 @@ from __future__ import annotations
 
 import dataclasses
 import functools
+import gc
 import pathlib
 import re
 from collections.abc import Iterator, Sequence
@@ -12,6 +13,7 @@ from typing import NamedTuple
 
 import antt
 
+gc.disable()  # (what is read stays to the end: to look for what is gone takes half of the time)
 ROOT = pathlib.Path(__file__).resolve().parents[2]
 GHOST_USE = re.compile(r"^( *)(?:pub )?ghost use ", re.M)
 COMMENT = re.compile(r'("(?:[^"\\\n]|\\.)*")|//[^\n]*')
@@ -124,6 +126,15 @@ class House:
     def sources(self) -> list[Source]:
         """The items of all sources."""
         return [source for crate in self.crates for source in sources_of(self.root, crate)]
+
+    @functools.cached_property
+    def blocks(self) -> dict[pathlib.Path, list[Source]]:
+        """The `impl`s and traits of each file."""
+        found: dict[pathlib.Path, list[Source]] = {}
+        for source in self.sources:
+            if source.kind in ("impl", "trait"):
+                found.setdefault(source.path, []).append(source)
+        return found
 
     @functools.cached_property
     def types(self) -> dict[str, list[Source]]:
@@ -278,7 +289,7 @@ class House:
     def source_imports(self, source: Source) -> list[antt.Import]:
         """The ghost imports that an item's clauses see: its file's, and those of the block that it stands in."""
         found: list[antt.Import] = []
-        spans = [(block.head, block.end) for block in self.sources if block.path == source.path and block.kind in ("impl", "trait")]
+        spans = [(block.head, block.end) for block in self.blocks.get(source.path, [])]
         for match in GHOST_USE.finditer("\n".join(source.lines)):
             line = "\n".join(source.lines)[: match.start()].count("\n")
             inside = [span for span in spans if span[0] <= line < span[1]]
