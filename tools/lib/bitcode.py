@@ -1,16 +1,32 @@
+#!/usr/bin/env python3
 """The code of a proved program or library as LLVM's text: its functions and their blocks, with counters or checks put in, and compiled.
 
 hosts/out has the bitcode that the kit's compiler was handed, one module for all that the program or the library reaches: each function once,
 by the name of its crate, and of a generic one each instance. The kit's own `clang` writes it as text, and compiles a text. In it a block is an
 arm of a `match`, a side of an `if`, a way round a loop, as the source has them: nothing is inlined yet, merged or left out.
+
+    tools/lib/bitcode.py library | program
+
+puts checks into the text, and optimises it as far as where the compiler would have a sanitizer put its own in: hosts/out keeps that, and
+tools/check/sanitizers and tools/check/fuzz compile it.
 """
+import hashlib
+import os
 import pathlib
 import re
 import shutil
 import subprocess
+import sys
+import tempfile
+import time
 from collections.abc import Iterable, Iterator
 from dataclasses import dataclass, field
 
+OUT = pathlib.Path(__file__).resolve().parents[2] / "hosts/out"
+MODULES = {"library": OUT / "libpac_host.bc", "program": OUT / "pacboard.bc"}
+LEVELS = {"library": "-O2", "program": "-O1"}  # of the compiler: the program takes longest to compile, the library to run
+KINDS = ("address", "memory")  # of sanitizers
+TELLING = 2  # seconds from one line about a command to the next
 FLAGS = "--target=x86_64-unknown-linux-gnu -march=x86-64 -mllvm -trap-unreachable -Wno-override-module -fPIC -x ir".split()
 NAME = r'@("[^"]*"|[\w.$-]+)'
 DEFINED = re.compile(rf"define .*?{NAME}\(")
@@ -71,10 +87,17 @@ def compiler() -> pathlib.Path:
 
 
 def run(*words: Word) -> None:
-    """Runs a command; one that fails ends the tool, with what it said."""
-    done = subprocess.run(words, stdout=subprocess.PIPE, stderr=subprocess.STDOUT, text=True, check=False)
-    if done.returncode:
-        raise RuntimeError(f"{' '.join(map(str, words))}: status {done.returncode}: {done.stdout[-2000:]}")
+    """Runs a command, and tells every two seconds how long; one that fails ends the tool, with what it said."""
+    begun = time.monotonic()
+    with tempfile.TemporaryFile("w+") as said, subprocess.Popen(words, stdout=said, stderr=subprocess.STDOUT) as process:
+        while process.poll() is None:
+            try:
+                process.wait(TELLING)
+            except subprocess.TimeoutExpired:
+                print(f"{pathlib.Path(words[0]).name}, {time.monotonic() - begun:.0f} s", file=sys.stderr, flush=True)
+        if process.returncode:
+            said.seek(0)
+            raise RuntimeError(f"{' '.join(map(str, words))}: status {process.returncode}: {said.read()[-2000:]}")
 
 
 def text_of(bitcode: pathlib.Path) -> list[str]:
@@ -88,6 +111,38 @@ def compile_text(lines: Iterable[str], to: pathlib.Path, *flags: str) -> None:
     source = to.with_suffix(".ll")
     source.write_text("\n".join(lines) + "\n")
     run(compiler(), *FLAGS, "-c", "-O2", *flags, source, "-o", to)
+
+
+def compile_optimised(lines: Iterable[str], to: pathlib.Path, flag: str, level: str) -> None:
+    """Compiles what is optimised to an object file: what a flag of the compiler asks for is put in, and nothing is optimised once more."""
+    source, marked = to.with_suffix(".ll"), to.with_suffix(".bc")
+    source.write_text("\n".join(lines) + "\n")
+    run(compiler(), *FLAGS, "-c", "-emit-llvm", "-O0", flag, source, "-o", marked)
+    run(compiler(), *FLAGS, "-c", level, "-Xclang", "-disable-llvm-passes", marked, "-o", to)
+
+
+def optimised(name: str) -> tuple[list[str], int]:
+    """The text of the library or the program with checks put in, and optimised for sanitizers; and how many checks there are.
+
+    What the optimiser mustn't do before a sanitizer comes it leaves undone in a function with its attribute; here each has both.
+    """
+    kept = OUT / f"{name}.optimised.ll"
+    of = hashlib.sha1(MODULES[name].read_bytes() + pathlib.Path(__file__).read_bytes()).hexdigest()
+    head = f"; {of}, with so many checks: "
+    if not kept.is_file() or not kept.read_text().startswith(head):
+        lines, count = with_checks(text_of(MODULES[name]))
+        for kind in KINDS:
+            lines = with_attribute(lines, f"sanitize_{kind}")
+        with tempfile.TemporaryDirectory(prefix=".optimised-", dir=OUT) as place:
+            room = pathlib.Path(place)
+            (room / "module.ll").write_text("\n".join(lines) + "\n")
+            # (what is to be linked as bitcode is optimised as far as that; its summary, lines with a ^, names what fuzz renames)
+            run(compiler(), *FLAGS, "-S", "-emit-llvm", "-flto", LEVELS[name], room / "module.ll", "-o", room / "optimised.ll")
+            lines = [line for line in (room / "optimised.ll").read_text().splitlines() if not line.startswith("^")]
+            (room / "kept.ll").write_text("\n".join([f"{head}{count}", *lines, ""]))
+            os.replace(room / "kept.ll", kept)
+    first, *lines = kept.read_text().splitlines()
+    return lines, int(first.rpartition(" ")[2])
 
 
 def link(objects: list[Word], to: pathlib.Path, *linker: Word) -> None:
@@ -209,3 +264,10 @@ def with_checks(lines: list[str]) -> tuple[list[str], int]:
             out.append(line)
     out += [part for bits in sorted(widths) for part in HOLDS.format(bits=bits).splitlines()]
     return out + ["declare void @llvm.trap()"] * (not any(line.startswith("declare void @llvm.trap()") for line in lines)), count
+
+
+if __name__ == "__main__":
+    if sys.argv[1:] not in [[name] for name in MODULES]:
+        print((__doc__ or "").strip())
+        sys.exit(0 if sys.argv[1:] == ["--help"] else 2)
+    print(f"{optimised(sys.argv[1])[1]:,} checks put into the {sys.argv[1]}")
