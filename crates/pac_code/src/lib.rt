@@ -6,7 +6,7 @@ ghost use Rattle.pac_code.specs.Codes.{DecodesPrefix, DecodesBack};
 mod decoder;
 mod encoder;
 
-pub use decoder::{decode, decode_row};
+pub use decoder::{decode, decode_row, plain_row};
 pub use encoder::{Code, encode};
 pub use pac_table::Instr;
 
