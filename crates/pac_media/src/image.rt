@@ -105,7 +105,7 @@ fn are_same(one: &Numbers, other: &Numbers, start: usize) -> bool
 }
 
 /// Draws a block of a line again, and keeps its numbers.
-#[inline]
+#[inline(always)]
 fn redraw_block(
     pixels: &mut [u8],
     kept: &mut Numbers,
