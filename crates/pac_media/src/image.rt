@@ -12,7 +12,7 @@ ghost use Rattle.pac_media.specs.Images.{palette_colour, ppm_of};
 ghost use Rattle.pac_picture.specs.State.{IsPicture, black};
 ghost use Rattle.pac_media.specs.Drawn.{AreColours, IsImageOf, IsDrawnTo};
 
-use crate::palette::{LANES, PIXELS, Palette, word};
+use crate::palette::{LANES, PIXELS, Palette, copy_sixteen, word};
 use pac_picture::{HEIGHT, Lines, Picture, WIDTH};
 use std::alloc::{AllocError, Global};
 use std::marker::Model;
@@ -119,7 +119,7 @@ fn redraw_block(
 {
     let block = &numbers[start..start + LANES];
     palette.colour(block, &mut pixels[3 * start..3 * start + PIXELS]);
-    kept[start..start + LANES].copy_from_slice(block);
+    copy_sixteen(block, &mut kept[start..start + LANES]);
 }
 
 /// Draws both blocks of a part of a line again. A call of its own, which most parts don't need, so that the loop over a line stays

@@ -112,6 +112,16 @@ fn put_vector(pixels: &mut [u8], at: usize, bytes: u8x16)
     bytes.copy_to_slice(&mut pixels[at..]);
 }
 
+/// Copies sixteen bytes as a vector.
+#[inline(always)]
+pub(crate) fn copy_sixteen(from: &[u8], to: &mut [u8])
+    requires from { length from.now ≡ 16 }
+    requires to { length to.old ≡ 16 }
+    ensures { to.new ≡ from.now }
+{
+    put_vector(to, 0, sixteen(from));
+}
+
 /// A palette, with its reds, greens and blues apart. Clauses see the palette.
 pub(crate) struct Palette {
     colours: Vec<[u8; 3]>,
