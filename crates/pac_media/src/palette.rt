@@ -112,7 +112,7 @@ fn put_vector(pixels: &mut [u8], at: usize, bytes: u8x16)
     bytes.copy_to_slice(&mut pixels[at..]);
 }
 
-/// Copies sixteen bytes as a vector.
+/// Copies sixteen bytes as a vector: `copy_from_slice` would first ask whether the two places overlap.
 #[inline(always)]
 pub(crate) fn copy_sixteen(from: &[u8], to: &mut [u8])
     requires from { length from.now ≡ 16 }
