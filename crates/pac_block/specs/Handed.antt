@@ -3,6 +3,8 @@ use Rattle.std.specs.Prelude.{◌≡◌, ◌≢◌, ◌≤◌, ◌<◌, ◌+◌,
 use Rattle.std.specs.Prelude.{Option, None, Some, Result, Ok, Err}
 use Rattle.pac_board.specs.BoardFields.{Fields}
 use Rattle.pac_board.specs.Fields.{state_of, AreBoardFields}
+use Rattle.pac_board.specs.FieldsProofs.{AreFieldsButLines}
+use Rattle.pac_board.specs.StateLaws.{restored_board}
 use Rattle.pac_board.specs.State.{BoardState, BoardValue, most_asked, time_of}
 use Rattle.pac_board.specs.Stop.{Stop}
 use Rattle.pac_state.specs.Block.{IsBlock}
@@ -25,6 +27,21 @@ OpensBlock block (Ok fields) = record {
   in_range : AreBoardFields fields;
 }
 OpensBlock block (Err fault) = (IsBlock block → ⊥) × (fault ≡ NoBoard)
+
+-- the same, but for the lines: it is such a block where they are a picture's
+abbrev pub OpensBlockButLines : List ℕ → Result Fields HostFault → Type 0
+OpensBlockButLines block (Ok fields) = record {
+  is_block : AreBoardFields fields → IsBlock block;
+  state : state_of fields ≡ state_in block;
+  in_range : AreFieldsButLines fields;
+  all : IsBlock block → AreBoardFields fields;
+}
+OpensBlockButLines block (Err fault) = (IsBlock block → ⊥) × (fault ≡ NoBoard)
+
+-- a board becomes that of these fields, where their lines are a picture's
+abbrev pub TakesFields : Fields → BoardValue → Result (Unit {0}) HostFault → BoardValue → Type 0
+TakesFields fields old (Ok done) new = AreBoardFields fields × (new ≡ restored_board old (state_of fields))
+TakesFields fields old (Err fault) new = (AreBoardFields fields → ⊥) × (fault ≡ NoBoard)
 
 -- what a block begins with where its board becomes another one that has the same picture, if it is the block of a state
 pub record HasFront (becomes : BoardValue → BoardValue) (block front : List ℕ) : Type 0 where

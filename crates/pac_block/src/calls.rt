@@ -4,7 +4,7 @@ ghost use Rattle.pac_block.specs.Host as host;
 ghost use Rattle.pac_board.specs.State.{board_after_reset};
 ghost use Rattle.pac_board.specs.Inputs.{mask};
 
-use crate::block::{PacBoard, clear, keep_run, open};
+use crate::block::{PacBoard, clear, keep_run, open_but_lines, take};
 use crate::codes::HostFault;
 use crate::fronts::{holding_front, power_on_front, reset_front};
 use crate::ran::{RanBytes, bytes_of};
@@ -55,12 +55,13 @@ pub fn exec(
         block.new.bytes samples.new ran.new.bytes }
 {
     check_roms(roms)?;
-    let fields = open(block)?;
-    check(&fields, microseconds, samples.len())?;
-    // (with a constant byte here the compiler has parts of the board twice on the stack)
-    let mut machine = Board::without_roms(fields.memory.switches);
+    // (made before anything else is looked at, so that the compiler writes its zeros once; and not of a constant byte, with which it has parts
+    // of the board twice on the stack)
+    let mut machine = Board::without_roms(block.bytes[0]);
     put_roms(&mut machine, roms);
-    machine.put_fields(&fields);
+    let fields = open_but_lines(block)?;
+    take(&mut machine, &fields)?;
+    check(&fields, microseconds, samples.len())?;
     let (told, stop) = run(&mut machine, microseconds, samples);
     ran.bytes = bytes_of(&told);
     keep_run(&machine, &stop, block);

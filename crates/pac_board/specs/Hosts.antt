@@ -1,7 +1,7 @@
 -- Law: a host's calls on one board, one after another, whatever its sinks take and refuse, each of which does what
 -- its contract says. Over the history they are acts, and the board stands where these acts bring it.
 use Rattle.std.specs.Prelude.{◌≡◌, ◌-◌, ℕ, nat_le, Bool, true, false, ◌&&◌, List, [], ◌∷◌, ◌++◌, map, replicate, length, take, drop}
-use Rattle.std.specs.Prelude.{slice_index_or, Option, None, Result, Ok, Err, ◌⊎◌}
+use Rattle.std.specs.Prelude.{slice_index_or, Option, Result, Ok, Err, ◌⊎◌}
 use Rattle.std.proofs.Common.{inl, inr}
 use Rattle.pac_cpu.specs.PlacedItems.{Item, AllLie}
 use Rattle.pac_cpu.specs.declared.once.Once.{Once}

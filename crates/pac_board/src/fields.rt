@@ -1,9 +1,10 @@
 //! A board made from its fields, as a save file has them, and told by them.
 
-ghost use Rattle.std.specs.Prelude.{◌≡◌, IfOk, IfErr};
+ghost use Rattle.std.specs.Prelude.{◌≡◌, ◌↔◌, IfOk, IfErr, true};
 ghost use Rattle.pac_board.specs.State.{passed_lines, recomposed_view, with_view};
 ghost use Rattle.pac_board.specs.StateLaws.{restored_board};
 ghost use Rattle.pac_machine.specs.Fields.{state_of, AreBoardFields};
+ghost use Rattle.pac_machine.specs.FieldsProofs.{AreFieldsButLines};
 
 use crate::board::Board;
 use crate::fault::InitRefused;
@@ -33,11 +34,25 @@ impl Board {
         requires { AreBoardFields fields.now }
         ensures { self.new ≡ restored_board self.old (state_of fields.now) }
     {
-        self.made = self.made();
+        self.take_fields(fields);
+    }
+
+    /// Becomes the board that has these fields, in place, if their lines are a picture's, which it answers: they are looked at as they are
+    /// copied. Else nothing is told of what it becomes. Its ROM set and the count of its steps stay.
+    pub fn take_fields(&mut self, fields: &Fields) -> bool
+        requires { AreFieldsButLines fields.now }
+        ensures taken { (result ≡ true) ↔ AreBoardFields fields.now }
+        ensures board { result ≡ true → self.new ≡ restored_board self.old (state_of fields.now) }
+    {
+        let made = self.made();
+        if !self.machine.take_fields(fields) {
+            return false;
+        }
+        self.made = made;
         self.since = fields.steps;
-        self.machine.put_fields(fields);
         self.asked = fields.asked;
         self.due = fields.due;
+        true
     }
 
     /// The fields of the board's state.

@@ -1,5 +1,5 @@
 -- For proofs: the board's bus, where each write is looked at.
-use Rattle.std.specs.Prelude.{ℕ, List, Bool, not, is_some, ◌&&◌, Option, None, Some, if◌then◌else◌}
+use Rattle.std.specs.Prelude.{ℕ, not, is_some, ◌&&◌, Option, Some, if◌then◌else◌}
 use Rattle.pac_cpu.specs.Action.{Action, Write, Output}
 use Rattle.pac_map.specs.ContentsProofs.{map_byte_at, map_input_at, map_after_action}
 use Rattle.pac_machine.specs.declared.watch.WatchedBus.{WatchedBus}

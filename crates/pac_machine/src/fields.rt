@@ -1,10 +1,11 @@
 //! A machine made from the fields of a board, as a save file has them, and told by them.
 
-ghost use Rattle.std.specs.Prelude.{◌≡◌, ◌≤◌, ◌<◌, ◌↔◌, true, length};
+ghost use Rattle.std.specs.Prelude.{◌≡◌, ◌≤◌, ◌<◌, ◌↔◌, true, length, if◌then◌else◌};
 ghost use Rattle.pac_wave.specs.Wave.{Fit20Bits};
 ghost use Rattle.pac_wave.specs.WaveLaws.{accumulators_of_list};
 ghost use Rattle.pac_machine.specs.Standing.{most_asked, passed_lines, recomposed_view};
 ghost use Rattle.pac_machine.specs.Fields.{moment_of, state_of, AreBoardFields};
+ghost use Rattle.pac_machine.specs.FieldsProofs.{AreFieldsButLines, blackened};
 
 use crate::due::Due;
 use crate::machine::Machine;
@@ -49,9 +50,9 @@ const LATEST_END: u64 = (1 << 52) + 22;
 pub const MOST_ASKED: u64 = 1 << 50;
 
 impl Fields<'_> {
-    /// Whether a board can have these fields: each is in its range.
-    pub fn are_in_range(&self) -> bool
-        ensures { (result ≡ true) ↔ AreBoardFields self.now }
+    /// Whether each of these fields is in its range but, maybe, the lines.
+    pub fn are_but_lines_in_range(&self) -> bool
+        ensures { (result ≡ true) ↔ AreFieldsButLines self.now }
     {
         self.memory.are_in_range()
             && self.memory.count < 16
@@ -59,7 +60,13 @@ impl Fields<'_> {
             && self.steps <= self.time / 4
             && self.time <= LATEST_END
             && self.asked <= MOST_ASKED
-            && is_picture(self.lines)
+    }
+
+    /// Whether a board can have these fields: each is in its range.
+    pub fn are_in_range(&self) -> bool
+        ensures { (result ≡ true) ↔ AreBoardFields self.now }
+    {
+        self.are_but_lines_in_range() && is_picture(self.lines)
     }
 }
 
@@ -69,12 +76,27 @@ impl Machine {
         requires { AreBoardFields fields.now }
         ensures { self.new ≡ record { set = self.old.set; now = moment_of fields.now } }
     {
+        self.take_fields(fields);
+    }
+
+    /// Becomes the machine of these fields, in place, if their lines are a picture's, which it answers: they are looked at as they are copied.
+    /// Else its picture is black. Its ROM set stays.
+    pub fn take_fields(&mut self, fields: &Fields) -> bool
+        requires { AreFieldsButLines fields.now }
+        ensures taken { (result ≡ true) ↔ AreBoardFields fields.now }
+        ensures machine { self.new ≡ (if result
+            then record { set = self.old.set; now = moment_of fields.now }
+            else blackened self.old) }
+    {
+        if !self.picture.take(fields.lines) {
+            return false;
+        }
         self.cpu = Cpu::with_regs(fields.regs);
         self.map.memory = Memory::of(&fields.memory);
         self.wave = Wave::of(fields.accumulators);
-        self.picture.copy_from(fields.lines);
         self.clock = fields.time;
         self.steps = fields.steps;
+        true
     }
 
     /// The fields, with the microseconds asked for and what is due.

@@ -2,10 +2,10 @@
 use Rattle.pac_picture.proofs.Common.{AreClean, AreSameOn, Bool, List, Shadow, Sprite, SpriteBytes, VideoMemory, VideoRoms, [], ap, arith}
 use Rattle.pac_picture.proofs.Common.{cases_Bool, cases_eq, cell_differs, cond, count_by, differing_cells, differing_in, dot, drawn_from}
 use Rattle.pac_picture.proofs.Common.{eqb-true, false, get_or, get_or-map, get_or-set_other, get_or-set_same, if◌then◌else◌, is_column_of}
-use Rattle.pac_picture.proofs.Common.{is_in_box, kept_dot, length, made_stale, map, not, picture_line, refl, seen_dot, seen_line}
-use Rattle.pac_picture.proofs.Common.{seen_sprite, set, set-get_or, shadow_at, shadow_from, slice_index, source_of, sprite_at, sprite_dot}
-use Rattle.pac_picture.proofs.Common.{sprites_at, suc, sym, tabulate, tabulate-same, true, true≢false, unflipped_line, zero, ℕ, ◌+◌, ◌-◌}
-use Rattle.pac_picture.proofs.Common.{◌/◌, ◌<◌, ◌==◌, ◌||◌, ◌∙◌, ◌≡◌, ◌≢◌}
+use Rattle.pac_picture.proofs.Common.{is_in_box, kept_dot, length, made_stale, map, no_shadow, not, picture_line, refl, seen_dot}
+use Rattle.pac_picture.proofs.Common.{seen_line, seen_sprite, set, set-get_or, shadow_at, shadow_from, slice_index, source_of, sprite_at}
+use Rattle.pac_picture.proofs.Common.{sprite_dot, sprites_at, suc, sym, tabulate, tabulate-same, true, true≢false, unflipped_line, zero}
+use Rattle.pac_picture.proofs.Common.{ℕ, ◌+◌, ◌-◌, ◌/◌, ◌<◌, ◌==◌, ◌||◌, ◌∙◌, ◌≡◌, ◌≢◌}
 use mathlib.Core.Logic.{inl, inr}
 use Rattle.pac_picture.proofs.Layers.{dot-drawn, shadow-set}
 use Rattle.pac_picture.proofs.Counts.{count-more}
@@ -147,11 +147,11 @@ none-counted test (suc count) k none below =
       | inr before ↦ none-counted test count k (omega (arith, more)) (omega (arith, below, before))
     ]
 
-both-same : (stale tile colour : Bool) → (stale || not tile || not colour) ≡ false → (tile ≡ true) × (colour ≡ true)
-both-same true tile colour is = absurd (true≢false is)
-both-same false true true is = (refl, refl)
-both-same false true false is = absurd (true≢false is)
-both-same false false colour is = absurd (true≢false is)
+both-same : (drawn tile colour : Bool) → (not drawn || not tile || not colour) ≡ false → (tile ≡ true) × (colour ≡ true)
+both-same false tile colour is = absurd (true≢false is)
+both-same true true true is = (refl, refl)
+both-same true true false is = absurd (true≢false is)
+both-same true false colour is = absurd (true≢false is)
 
 AreSame : Shadow → Shadow → Type 0
 AreSame one other = (k : ℕ) → k < 36 →
@@ -161,7 +161,7 @@ cells-same : (shadow : Shadow) (tiles colours : List ℕ) → differing_cells sh
     AreSame shadow (shadow_from tiles colours)
 unfolding differing_cells AreSame
 cells-same shadow tiles colours none = λ k below.
-    let here = both-same shadow.stale (slice_index shadow.tiles k == slice_index tiles k)
+    let here = both-same shadow.is_drawn (slice_index shadow.tiles k == slice_index tiles k)
     (slice_index shadow.colours k == slice_index colours k) (none-counted (cell_differs shadow tiles colours) 36 k none below) in
     (eqb-true _ _ here.0, eqb-true _ _ here.1)
 
@@ -204,7 +204,7 @@ row-drawn roms memory marks left flip now sprites shadows lines row cells clean 
             let same = line-same roms (shadow_at shadows row) (drawn_from memory row) (sprites_at sprites source) flip y
             (cells-same _ _ _ none) in
             rw (here, drawn) ((rw here at before) ∙ same)
-        | inr apart ↦ rw (get_or-set_other shadows row (source / 8) (drawn_from memory row) (shadow_from [] []) apart) before
+        | inr apart ↦ rw (get_or-set_other shadows row (source / 8) (drawn_from memory row) no_shadow apart) before
       ];
 })
 
@@ -228,6 +228,6 @@ stale-clean marks flip sprites roms shadows lines clean high = record {
   each = λ y down marked.
       let below : unflipped_line flip y < 224 = source-below flip y down in
       let inside : unflipped_line flip y / 8 < length shadows = omega (arith, below, high) in
-      rw (get_or-map made_stale shadows (unflipped_line flip y / 8) (shadow_from [] []) (shadow_from [] []) inside)
+      rw (get_or-map made_stale shadows (unflipped_line flip y / 8) no_shadow no_shadow inside)
       (clean.each y down marked);
 }

@@ -13,12 +13,13 @@ unfoldable pub use Rattle.pac_picture.specs.CleanLines.{seen_dot, seen_line}
 pub use Rattle.pac_picture.specs.Decoded.{AreNumbersOf, ArePlaces, AreValues}
 unfoldable pub use Rattle.pac_picture.specs.Decoded.{sprite_values, tile_pair}
 pub use Rattle.pac_picture.specs.Laws.{StaleCellsAreDrawn, cell_row_of}
-pub use Rattle.pac_picture.specs.Layer.{AreStale, cell_differs, differing_in, drawn_from, shadow_at, shadow_from}
+pub use Rattle.pac_picture.specs.Layer.{AreStale, cell_differs, differing_in, drawn_from, no_shadow, shadow_at, shadow_from}
 unfoldable pub use Rattle.pac_picture.specs.Layer.{all_differing, cells_of, differing_cells}
-pub use Rattle.pac_picture.specs.LayerProofs.{IsDrawn, IsLayer, LayerState, lines_at, made_stale, row_dot, stale_row}
+pub use Rattle.pac_picture.specs.LayerProofs.{IsDrawn, IsLayer, LayerState, made_stale, row_dot, stale_row}
 unfoldable pub use Rattle.pac_picture.specs.LayerProofs.{kept_dot, stale_rows, zero_roms}
 pub use Rattle.pac_picture.specs.Painting.{painted_number}
 unfoldable pub use Rattle.pac_picture.specs.Painting.{over_line}
+pub use Rattle.pac_picture.specs.RawProofs.{AreColourNumbers}
 pub use Rattle.pac_picture.specs.Picture.{VideoMemory, VideoRoms, is_opaque, sprite_at}
 unfoldable pub use Rattle.pac_picture.specs.Picture.{dot, picture_line, sprite_dot, sprite_number, tile_dot, tile_number}
 unfoldable pub use Rattle.pac_picture.specs.PictureLaws.{picture_of}
@@ -54,4 +55,4 @@ pub use Rattle.std.proofs.lemmas.Simd.{get_or-put_chunk_at, get_or-sel_l, get_or
 pub use Rattle.std.proofs.lemmas.Simd.{length-sel_l, length-zip2, mask_l-mod, swz_l, tops_compared}
 pub use Rattle.std.specs.Int.{bit_at}
 pub use Rattle.std.specs.List.{flat_map}
-pub use Rattle.std.specs.Prelude.{count_by, find, reverse, sum, unwrap_or}
+pub use Rattle.std.specs.Prelude.{count_by, find, reverse, sum, take, unwrap_or}

@@ -1,10 +1,10 @@
 -- The layer, row by row.
-use Rattle.pac_picture.proofs.Common.{IsDrawn, IsLayer, LayerState, List, Shadow, Strip, VideoMemory, VideoRoms, [], add-one, ap, arith}
-use Rattle.pac_picture.proofs.Common.{cells_of, differing_in, drawn_from, false, get_or-map, get_or-set_other, get_or-set_same}
-use Rattle.pac_picture.proofs.Common.{get_or-tabulate, get_or_default, kept_dot, length, length-map, length-tabulate, made_stale, map}
-use Rattle.pac_picture.proofs.Common.{offset_of, refl, row_dot, same_lists, set, set-one-more, shadow_at, shadow_from, slice_index}
-use Rattle.pac_picture.proofs.Common.{stale_row, stale_rows, suc, sum, sum_by_push, sym, tabulate, tabulate-is, tabulate-same, tile_dot}
-use Rattle.pac_picture.proofs.Common.{true, true≢false, ℕ, ◌%◌, ◌+◌, ◌/◌, ◌<◌, ◌∙◌, ◌≡◌, ◌≢◌, ◌≤◌}
+use Rattle.pac_picture.proofs.Common.{IsDrawn, IsLayer, LayerState, List, Shadow, Strip, VideoMemory, VideoRoms, add-one, ap, arith}
+use Rattle.pac_picture.proofs.Common.{cells_of, differing_in, drawn_from, get_or-map, get_or-set_other, get_or-set_same, get_or-tabulate}
+use Rattle.pac_picture.proofs.Common.{get_or_default, kept_dot, length, length-map, length-tabulate, made_stale, map, no_shadow}
+use Rattle.pac_picture.proofs.Common.{offset_of, refl, row_dot, same_lists, set, set-one-more, shadow_at, slice_index, stale_row}
+use Rattle.pac_picture.proofs.Common.{stale_rows, suc, sum, sum_by_push, sym, tabulate, tabulate-is, tabulate-same, tile_dot, true, ℕ}
+use Rattle.pac_picture.proofs.Common.{◌%◌, ◌+◌, ◌/◌, ◌<◌, ◌∙◌, ◌≡◌, ◌≢◌, ◌≤◌}
 
 -- one row more that is stale
 pub made-step : (old now : List Shadow) (index : ℕ) → index < length now →
@@ -12,7 +12,7 @@ pub made-step : (old now : List Shadow) (index : ℕ) → index < length now →
     ((k : ℕ) → index ≤ k → shadow_at now k ≡ shadow_at old k) →
     (k : ℕ) → k < index + 1 → shadow_at (set now index (made_stale (shadow_at now index))) k ≡ made_stale (shadow_at old k)
 made-step old now index inside made rest =
-    set-one-more now (λ k. made_stale (shadow_at old k)) index (made_stale (shadow_at now index)) (shadow_from [] []) inside
+    set-one-more now (λ k. made_stale (shadow_at old k)) index (made_stale (shadow_at now index)) no_shadow inside
     (ap made_stale (rest index (omega arith))) made
 
 pub made-rest : (old now : List Shadow) (index : ℕ) (next : Shadow) →
@@ -20,7 +20,7 @@ pub made-rest : (old now : List Shadow) (index : ℕ) (next : Shadow) →
     (k : ℕ) → index + 1 ≤ k → shadow_at (set now index next) k ≡ shadow_at old k
 made-rest old now index next rest k past =
     let apart : k ≢ index = omega (arith, past) in
-    get_or-set_other now index k next (shadow_from [] []) apart ∙ rest k (omega (arith, past))
+    get_or-set_other now index k next no_shadow apart ∙ rest k (omega (arith, past))
 
 -- all rows
 pub made-end : (old now : List Shadow) → length now ≡ length old →
@@ -29,32 +29,24 @@ made-end old now long made =
     same_lists now (map made_stale old) (long ∙ sym (length-map old made_stale))
     (λ k d inside.
     let within : k < length old = omega (arith, inside, long) in
-    get_or_default now k d (shadow_from [] []) inside ∙ (made k inside ∙ sym (get_or-map made_stale old k (shadow_from [] []) d within)))
+    get_or_default now k d no_shadow inside ∙ (made k inside ∙ sym (get_or-map made_stale old k no_shadow d within)))
 
 -- shadows of rows that were never drawn
 pub stale-at : (row : ℕ) → row < 28 → shadow_at stale_rows row ≡ stale_row
 unfolding stale_rows
-stale-at row below = get_or-tabulate 28 (λ _. stale_row) row (shadow_from [] []) below
+stale-at row below = get_or-tabulate 28 (λ _. stale_row) row no_shadow below
 
 pub length-stale : length stale_rows ≡ 28
 unfolding stale_rows
 length-stale = length-tabulate 28 (λ _. stale_row)
 
-pub new-layer : (roms : VideoRoms) (shadows : List Shadow) (strips : List (Strip (List (List (List ℕ))))) → shadows ≡ stale_rows →
-    length strips ≡ 28 →
-    IsLayer roms shadows strips
-new-layer roms shadows strips is high = record {
-  shadows_high = rw is length-stale;
-  strips_high = high;
-  drawn = λ row below fresh.
-      let here : shadow_at shadows row ≡ stale_row = rw is (stale-at row below) in
-      let never : true ≡ false = rw here at fresh in
-      absurd (true≢false never);
-}
+pub new-layer : (roms : VideoRoms) (shadows : List Shadow) (kept : Strip (List (List (List ℕ)))) → shadows ≡ stale_rows →
+    IsLayer roms shadows 28 kept
+new-layer roms shadows kept is = record { shadows_high = rw is length-stale; drawn = λ below. absurd (omega (arith, below)) }
 
 -- a line of the layer
 pub line-kept : (roms : VideoRoms) (shadow : Shadow) (strip : List (List (List ℕ))) (y : ℕ) → IsDrawn roms shadow strip →
-    shadow.stale ≡ false → tabulate 288 (λ x. row_dot strip x (y % 8)) ≡ tabulate 288 (λ x. kept_dot roms shadow x y)
+    shadow.is_drawn ≡ true → tabulate 288 (λ x. row_dot strip x (y % 8)) ≡ tabulate 288 (λ x. kept_dot roms shadow x y)
 unfolding kept_dot
 line-kept roms shadow strip y drawn fresh =
     tabulate-same 288 _ _ (λ x across.
@@ -77,7 +69,7 @@ dot-drawn roms memory x y across =
 pub row-step : (memory : VideoMemory) (now : List Shadow) (row : ℕ) → row < length now →
     ((k : ℕ) → k < row → shadow_at now k ≡ drawn_from memory k) →
     (k : ℕ) → k < row + 1 → shadow_at (set now row (drawn_from memory row)) k ≡ drawn_from memory k
-row-step memory now row inside done = set-one-more now (drawn_from memory) row (drawn_from memory row) (shadow_from [] []) inside refl done
+row-step memory now row inside done = set-one-more now (drawn_from memory) row (drawn_from memory row) no_shadow inside refl done
 
 pub sum-more : (value : ℕ → ℕ) (count : ℕ) → sum (tabulate (suc count) value) ≡ sum (tabulate count value) + value count
 unfolding tabulate
@@ -96,17 +88,17 @@ sum-step old now memory row so_far one is more same =
 
 pub drawn-all : (memory : VideoMemory) (shadows : List Shadow) → length shadows ≡ 28 →
     ((k : ℕ) → k < 28 → shadow_at shadows k ≡ drawn_from memory k) → shadows ≡ tabulate 28 (drawn_from memory)
-drawn-all memory shadows high done = tabulate-is shadows 28 (drawn_from memory) (shadow_from [] []) high done
+drawn-all memory shadows high done = tabulate-is shadows 28 (drawn_from memory) no_shadow high done
 
 pub all-at : (memory : VideoMemory) (shadows : List Shadow) (row : ℕ) → shadows ≡ tabulate 28 (drawn_from memory) → row < 28 →
     shadow_at shadows row ≡ drawn_from memory row
-all-at memory shadows row is below = rw is (get_or-tabulate 28 (drawn_from memory) row (shadow_from [] []) below)
+all-at memory shadows row is below = rw is (get_or-tabulate 28 (drawn_from memory) row no_shadow below)
 
 pub shadow-set : (shadows : List Shadow) (row : ℕ) (next : Shadow) → length shadows ≡ 28 → row < 28 → shadow_at
     (set shadows row next) row ≡ next
 shadow-set shadows row next high below =
     let room : row < length shadows = omega (arith, high, below) in
-    get_or-set_same shadows row next (shadow_from [] []) room
+    get_or-set_same shadows row next no_shadow room
 
 pub layer-is : (layer : LayerState) (roms : VideoRoms) (shadows : List Shadow) → layer.roms ≡ roms → layer.shadows ≡ shadows →
     layer ≡ record { roms = roms; shadows = shadows }

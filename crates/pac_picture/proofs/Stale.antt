@@ -1,9 +1,9 @@
 -- Where all cells count as differing, all are counted.
-use Rattle.pac_picture.proofs.Common.{AreStale, Bool, IsLayer, List, Shadow, StaleCellsAreDrawn, Strip, VideoMemory, VideoRoms, []}
+use Rattle.pac_picture.proofs.Common.{AreStale, Bool, IsLayer, List, Shadow, StaleCellsAreDrawn, Strip, VideoMemory, VideoRoms}
 use Rattle.pac_picture.proofs.Common.{all_differing, ap, arith, cell_differs, cell_row_of, cells_of, count_by, differing_cells}
-use Rattle.pac_picture.proofs.Common.{differing_in, drawn_from, get_or-map, get_or-set_other, length, length-map, made_stale, map, refl}
-use Rattle.pac_picture.proofs.Common.{shadow_at, shadow_from, stale_rows, suc, sym, tabulate, true, true≢false, zero, ℕ, ◌*◌, ◌+◌, ◌<◌, ◌∙◌}
-use Rattle.pac_picture.proofs.Common.{◌≡◌}
+use Rattle.pac_picture.proofs.Common.{differing_in, drawn_from, false, get_or-map, get_or-set_other, length, length-map, made_stale, map}
+use Rattle.pac_picture.proofs.Common.{no_shadow, refl, shadow_at, stale_rows, suc, sym, tabulate, true, true≢false, zero, ℕ, ◌*◌, ◌+◌}
+use Rattle.pac_picture.proofs.Common.{◌<◌, ◌∙◌, ◌≡◌}
 use Rattle.std.proofs.Common.{sum}
 use Rattle.pac_picture.proofs.Counts.{count-more, count-none}
 use Rattle.pac_picture.proofs.Layers.{sum-more, sum-none, stale-at, length-stale}
@@ -17,7 +17,7 @@ count-always test (suc count) always =
     rw (count-more test count, before, last) (sym next)
 
 -- the 36 cells of a row
-pub row-counts : (shadow : Shadow) (tiles colours : List ℕ) → shadow.stale ≡ true → differing_cells shadow tiles colours ≡ 36
+pub row-counts : (shadow : Shadow) (tiles colours : List ℕ) → shadow.is_drawn ≡ false → differing_cells shadow tiles colours ≡ 36
 unfolding differing_cells
 row-counts shadow tiles colours is = count-always (cell_differs shadow tiles colours) 36 (λ k. rw is refl)
 
@@ -43,7 +43,7 @@ stale-cells-are-drawn memory state = record {
       let row = cell_row_of memory y in
       row-counts (shadow_at state.shadows row) (cells_of memory.tile_ram row) (cells_of memory.colour_ram row) is;
   others = λ y row apart.
-      get_or-set_other state.shadows (cell_row_of memory y) row (drawn_from memory (cell_row_of memory y)) (shadow_from [] []) apart;
+      get_or-set_other state.shadows (cell_row_of memory y) row (drawn_from memory (cell_row_of memory y)) no_shadow apart;
 }
 
 -- ---- where they do
@@ -51,7 +51,7 @@ stale-cells-are-drawn memory state = record {
 pub new-stale : (shadows : List Shadow) → shadows ≡ stale_rows → AreStale shadows
 new-stale shadows is = record {
   high = ap length is ∙ length-stale;
-  each = λ row below. ap (λ shadows. (shadow_at shadows row).stale) is ∙ ap (λ (shadow : Shadow). shadow.stale) (stale-at row below);
+  each = λ row below. ap (λ shadows. (shadow_at shadows row).is_drawn) is ∙ ap (λ (shadow : Shadow). shadow.is_drawn) (stale-at row below);
 }
 
 pub made-are-stale : (old new : List Shadow) → new ≡ map made_stale old → length old ≡ 28 → AreStale new
@@ -59,16 +59,14 @@ made-are-stale old new is high = record {
   high = ap length is ∙ length-map old made_stale ∙ high;
   each = λ row below.
       let inside : row < length old = omega (arith, below, high) in
-      ap (λ shadows. (shadow_at shadows row).stale) is
-      ∙ ap (λ (shadow : Shadow). shadow.stale) (get_or-map made_stale old row (shadow_from [] []) (shadow_from [] []) inside);
+      ap (λ shadows. (shadow_at shadows row).is_drawn) is
+      ∙ ap (λ (shadow : Shadow). shadow.is_drawn) (get_or-map made_stale old row no_shadow no_shadow inside);
 }
 
 -- a layer of which every cell counts as differing, whatever its ROMs are
-pub undrawn-layer : (roms : VideoRoms) (shadows : List Shadow) (strips : List (Strip (List (List (List ℕ))))) → AreStale shadows →
-    length strips ≡ 28 →
-    IsLayer roms shadows strips
-undrawn-layer roms shadows strips are high = record {
+pub undrawn-layer : (roms : VideoRoms) (shadows : List Shadow) (row : ℕ) (kept : Strip (List (List (List ℕ)))) → AreStale shadows →
+    IsLayer roms shadows row kept
+undrawn-layer roms shadows row kept are = record {
   shadows_high = are.high;
-  strips_high = high;
-  drawn = λ row below fresh. absurd (true≢false (sym (are.each row below) ∙ fresh));
+  drawn = λ below fresh. absurd (true≢false (sym fresh ∙ are.each row below));
 }

@@ -223,7 +223,7 @@ none-marked mask column none =
 
 -- where a mask has no cell, those stay that were drawn
 pub cells-kept : (roms : VideoRoms) (shadow : Shadow) (tiles colours : List ℕ) (mask : List Bool) (lines : List (List (List ℕ))) →
-    IsDrawn roms shadow lines → shadow.stale ≡ false →
+    IsDrawn roms shadow lines → shadow.is_drawn ≡ true →
     ((column : ℕ) → column < 36 → get_or mask column false ≡ cell_differs shadow tiles colours column) →
     AreDrawn roms tiles colours (has_marked mask) 0 lines
 unfolding kept_dot

@@ -1,6 +1,6 @@
 -- Law: how many cells a composing draws where all cells count as differing, as they do in a picture that is new and
 -- in one that has taken its lines from others.
-use Rattle.std.specs.Prelude.{◌≡◌, ◌≢◌, ℕ, ◌/◌, true}
+use Rattle.std.specs.Prelude.{false, ◌≡◌, ◌≢◌, ℕ, ◌/◌}
 use Rattle.pac_tiles.specs.Tiles.{tile_side}
 use Rattle.pac_picture.specs.Layer.{AreStale, shadow_at}
 use Rattle.pac_picture.specs.Picture.{VideoMemory}
@@ -14,7 +14,7 @@ pub record DrawsStaleCells (memory : VideoMemory) (state : PictureState) : Type 
   -- the whole picture: all of its 1,008 cells
   pub whole : AreStale state.shadows → (composed_picture memory state).drawn ≡ 1008
   -- a line: the 36 cells of its row
-  pub line : (y : ℕ) → (shadow_at state.shadows (cell_row_of memory y)).stale ≡ true → (picture_with_line y memory state).drawn ≡ 36
+  pub line : (y : ℕ) → (shadow_at state.shadows (cell_row_of memory y)).is_drawn ≡ false → (picture_with_line y memory state).drawn ≡ 36
   -- a line: the other rows are as they were
   pub others : (y row : ℕ) → row ≢ cell_row_of memory y
       → shadow_at (picture_with_line y memory state).shadows row ≡ shadow_at state.shadows row

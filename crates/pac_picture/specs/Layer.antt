@@ -14,19 +14,22 @@ cells_of ram row = tabulate columns (λ column. slice_index ram (offset_of colum
 
 -- the shadow of a row whose cells were drawn from these bytes, and from memory
 abbrev pub shadow_from : List ℕ → List ℕ → Shadow
-shadow_from tiles colours = record { tiles = tiles; colours = colours; stale = false }
+shadow_from tiles colours = record { tiles = tiles; colours = colours; is_drawn = true }
 
 abbrev pub drawn_from : VideoMemory → ℕ → Shadow
 drawn_from memory row = shadow_from (cells_of memory.tile_ram row) (cells_of memory.colour_ram row)
 
--- the shadow of the row of a number
+-- the shadow of a row that there isn't, and of the row of a number
+abbrev pub no_shadow : Shadow
+no_shadow = record { tiles = []; colours = []; is_drawn = false }
+
 abbrev pub shadow_at : List Shadow → ℕ → Shadow
-shadow_at shadows row = slice_index_or shadows row (shadow_from [] [])
+shadow_at shadows row = slice_index_or shadows row no_shadow
 
 -- whether the cell of a column differs from these bytes of tile RAM and of colour RAM
 abbrev pub cell_differs : Shadow → List ℕ → List ℕ → ℕ → Bool
 cell_differs shadow tiles colours column =
-    shadow.stale || not (slice_index shadow.tiles column == slice_index tiles column)
+    not shadow.is_drawn || not (slice_index shadow.tiles column == slice_index tiles column)
     || not (slice_index shadow.colours column == slice_index colours column)
 
 -- how many cells of a row differ
@@ -43,4 +46,4 @@ all_differing shadows memory = sum (tabulate rows (differing_in shadows memory))
 -- every cell of the picture counts as differing
 pub record AreStale (shadows : List Shadow) : Type 0 where
   pub high : length shadows ≡ rows
-  pub each : (row : ℕ) → row < rows → (shadow_at shadows row).stale ≡ true
+  pub each : (row : ℕ) → row < rows → (shadow_at shadows row).is_drawn ≡ false

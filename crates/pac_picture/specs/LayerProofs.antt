@@ -27,14 +27,14 @@ zero_roms = record {
 
 -- the shadow of a row that was never drawn, and of all rows
 abbrev pub stale_row : Shadow
-stale_row = record { tiles = replicate columns 0; colours = replicate columns 0; stale = true }
+stale_row = record { tiles = replicate columns 0; colours = replicate columns 0; is_drawn = false }
 
 unfoldable pub stale_rows : List Shadow
 stale_rows = tabulate rows (λ _. stale_row)
 
 -- every cell of a row counts as differing from now on
 abbrev pub made_stale : Shadow → Shadow
-made_stale shadow = record shadow { stale = true }
+made_stale shadow = record shadow { is_drawn = false }
 
 -- the number at (x, y) of the picture, from the bytes that its row of cells was drawn from
 unfoldable pub kept_dot : VideoRoms → Shadow → ℕ → ℕ → ℕ
@@ -44,22 +44,17 @@ kept_dot roms shadow x y = tile_number roms (slice_index shadow.colours (x / 8))
 abbrev pub row_dot : List (List (List ℕ)) → ℕ → ℕ → ℕ
 row_dot lines x y = slice_index (slice_index_or (slice_index_or lines y []) (x / 16) []) (x % 16)
 
--- where a row of cells isn't stale, its lines are those of the cells that its bytes say
+-- where a row of cells was drawn, its lines are those of the cells that its bytes say
 abbrev pub IsDrawn : VideoRoms → Shadow → List (List (List ℕ)) → Type 0
 IsDrawn roms shadow lines =
-    shadow.stale ≡ false → (x y : ℕ) → x < width → y < 8 → row_dot lines x y ≡ kept_dot roms shadow x y
+    shadow.is_drawn ≡ true → (x y : ℕ) → x < width → y < 8 → row_dot lines x y ≡ kept_dot roms shadow x y
 
 -- what clauses see of the layer: the ROMs that it is drawn from, and the shadows of its 28 rows
 pub record LayerState : Type 0 where
   pub roms : VideoRoms
   pub shadows : List Shadow
 
--- the lines of the row of a number
-abbrev pub lines_at : List (Strip (List (List (List ℕ)))) → ℕ → List (List (List ℕ))
-lines_at strips row = (slice_index_or strips row (record { lines = [] })).lines
-
--- the layer's rows are whole, and drawn
-pub record IsLayer (roms : VideoRoms) (shadows : List Shadow) (strips : List (Strip (List (List (List ℕ))))) : Type 0 where
+-- the shadows are of all rows, and the lines that are kept of one row are drawn; 28 is the number of none
+pub record IsLayer (roms : VideoRoms) (shadows : List Shadow) (row : ℕ) (kept : Strip (List (List (List ℕ)))) : Type 0 where
   pub shadows_high : length shadows ≡ rows
-  pub strips_high : length strips ≡ rows
-  pub drawn : (row : ℕ) → row < rows → IsDrawn roms (shadow_at shadows row) (lines_at strips row)
+  pub drawn : row < rows → IsDrawn roms (shadow_at shadows row) kept.lines

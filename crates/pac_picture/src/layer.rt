@@ -1,4 +1,4 @@
-//! The layer of tiles: each row of cells as it was last drawn, beside the bytes that it was drawn from.
+//! The layer of tiles: for each row of cells the bytes that it was last drawn from, and one row as it was drawn.
 
 ghost use Rattle.std.specs.Prelude.{◌≡◌, ◌<◌, ◌≤◌, ◌-◌, ◌/◌, ◌%◌, ◌==◌, ◌||◌, ℕ, true};
 ghost use Rattle.std.specs.Prelude.{false, not, if◌then◌else◌, [], length, map, count_by};
@@ -48,7 +48,7 @@ fn differing_bytes(bytes: &RowBytes, shadow: &RowBytes) -> [bool; COLUMNS]
 /// Which cells of a row differ from these bytes, where not all of them do.
 #[inline]
 fn differing(shadow: &Shadow, tiles: &RowBytes, colours: &RowBytes) -> [bool; COLUMNS]
-    requires { shadow.now.stale ≡ false }
+    requires { shadow.now.is_drawn ≡ true }
     ensures { (column : ℕ) → column < tiles_laws.columns → slice_index_or result column false
         ≡ cell_differs shadow.now tiles.now colours.now column }
 {
@@ -56,6 +56,17 @@ fn differing(shadow: &Shadow, tiles: &RowBytes, colours: &RowBytes) -> [bool; CO
         &differing_bytes(tiles, &shadow.tiles),
         &differing_bytes(colours, &shadow.colours),
     )
+}
+
+/// How many cells of a row differ from these bytes.
+fn differing_count(shadow: &Shadow, tiles: &RowBytes, colours: &RowBytes) -> u32
+    ensures count { result ≡ differing_cells shadow.now tiles.now colours.now }
+    ensures bound { result ≤ tiles_laws.columns }
+{
+    if !shadow.is_drawn {
+        return COLUMNS as u32;
+    }
+    marked(&differing(shadow, tiles, colours))
 }
 
 /// Draws those cells of a row again that differ from these bytes, looking at each of them, and all of a row of which none is known to be
@@ -75,9 +86,7 @@ fn refresh_cells(
     ensures bound { result ≤ tiles_laws.columns }
 {
     let differing = draw_differing(lines, shadow, graphics, tiles, colours);
-    shadow.tiles = *tiles;
-    shadow.colours = *colours;
-    shadow.stale = false;
+    shadow.take(tiles, colours);
     differing
 }
 
@@ -95,13 +104,38 @@ fn draw_differing(
     ensures count { result ≡ differing_cells shadow.now tiles.now colours.now }
     ensures bound { result ≤ tiles_laws.columns }
 {
-    if shadow.stale {
+    if !shadow.is_drawn {
         draw_all(lines, graphics, tiles, colours);
         return COLUMNS as u32;
     }
     let mask = differing(shadow, tiles, colours);
     redraw(lines, graphics, tiles, colours, &mask);
     marked(&mask)
+}
+
+/// Takes the bytes of a row whose lines aren't there, to be drawn later, and says how many cells differ from those that it had.
+#[inline]
+fn take_cells(shadow: &mut Shadow, tiles: &RowBytes, colours: &RowBytes) -> u32
+    ensures shadow { shadow.new ≡ shadow_from tiles.now colours.now }
+    ensures count { result ≡ differing_cells shadow.old tiles.now colours.now }
+    ensures bound { result ≤ tiles_laws.columns }
+{
+    let differing = differing_count(shadow, tiles, colours);
+    shadow.take(tiles, colours);
+    differing
+}
+
+/// Draws a row from the bytes that it has, unless its lines are those that are kept, and keeps them.
+#[inline(always)]
+fn keep(row: u8, kept: &mut u8, lines: &mut RowLines, shadow: &Shadow, graphics: &Graphics)
+    requires { kept.old ≡ row → IsDrawn graphics.now shadow.now lines.old }
+    ensures row { kept.new ≡ row }
+    ensures drawn { IsDrawn graphics.now shadow.now lines.new }
+{
+    if *kept != row {
+        draw_all(lines, graphics, &shadow.tiles, &shadow.colours);
+        *kept = row;
+    }
 }
 
 /// Makes every cell of some rows count as differing.
@@ -114,6 +148,23 @@ fn make_stale(shadows: &mut [Shadow])
     }
 }
 
+/// Fills a line with line y of the picture's cells, of a row of these tiles and colours, which are drawn for it alone.
+#[inline(never)]
+fn lay_bytes(
+    graphics: &Graphics,
+    tiles: &RowBytes,
+    colours: &RowBytes,
+    y: u8,
+    out: &mut [u8; WIDTH],
+)
+    ensures { out.new ≡ tabulate tile.width (λ x.
+        kept_dot graphics.now (shadow_from tiles.now colours.now) x y) }
+{
+    let mut lines = [[[0; 16]; PLACES]; 8];
+    draw_all(&mut lines, graphics, tiles, colours);
+    lay_line(&lines, y % 8, out);
+}
+
 /// Fills a line with line y of the picture's cells, which are drawn for it alone.
 pub(crate) fn lay_alone(graphics: &Graphics, screen: &Screen<'_>, y: u8, out: &mut [u8; WIDTH])
     requires { y < tile.height }
@@ -121,14 +172,9 @@ pub(crate) fn lay_alone(graphics: &Graphics, screen: &Screen<'_>, y: u8, out: &m
         kept_dot graphics.now (drawn_from screen.now (y / 8)) x y) }
 {
     let row = y / 8;
-    let mut lines = [[[0; 16]; PLACES]; 8];
-    draw_all(
-        &mut lines,
-        graphics,
-        &screen.tiles(row),
-        &screen.colours(row),
-    );
-    lay_line(&lines, y % 8, out);
+    let tiles = screen.tiles(row);
+    let colours = screen.colours(row);
+    lay_bytes(graphics, &tiles, &colours, y, out);
 }
 
 /// A row of the layer. The type of its lines is a parameter, since no rule of the borrow checker covers a literal of a struct with an array
@@ -149,11 +195,13 @@ impl<R> Strip<R> {
     }
 }
 
-/// The layer of tiles. Clauses see the ROMs that it is drawn from, and the shadows of its rows.
+/// The layer of tiles. Clauses see the ROMs that it is drawn from, and the bytes that its rows were last drawn from. Of one row the lines are
+/// kept: of whichever a line was last taken from.
 #[derive(Drop)]
 pub(crate) struct Layer {
     graphics: Graphics,
-    rows: [Strip<RowLines>; ROWS as usize],
+    kept: Strip<RowLines>,
+    row: u8,
     shadows: [Shadow; ROWS as usize],
 }
 
@@ -164,7 +212,7 @@ impl Model for Layer {
 
     ghost view = { λ layer. record { roms = layer.graphics; shadows = layer.shadows } };
 
-    ghost invariant = { λ layer. IsLayer layer.graphics layer.shadows layer.rows };
+    ghost invariant = { λ layer. IsLayer layer.graphics layer.shadows layer.row layer.kept };
 }
 
 impl Layer {
@@ -175,7 +223,8 @@ impl Layer {
     {
         Layer {
             graphics,
-            rows: repeated(Strip::of([[[0; 16]; PLACES]; 8])),
+            kept: Strip::of([[[0; 16]; PLACES]; 8]),
+            row: ROWS,
             shadows: repeated(Shadow::new()),
         }
     }
@@ -186,7 +235,8 @@ impl Layer {
     {
         Layer {
             graphics: Graphics::zeroed(),
-            rows: repeated(Strip::of([[[0; 16]; PLACES]; 8])),
+            kept: Strip::of([[[0; 16]; PLACES]; 8]),
+            row: ROWS,
             shadows: repeated(Shadow::new()),
         }
     }
@@ -219,8 +269,8 @@ impl Layer {
         make_stale(&mut self.shadows);
     }
 
-    /// Draws those cells of a row again that differ from what the screen has, and says how many they are: none, as for most rows, where
-    /// the row was drawn from what is there now.
+    /// Brings a row to what the screen has, and says how many of its cells differ: none, as for most rows, where it was drawn from what is
+    /// there now.
     #[inline]
     pub(crate) fn refresh(&mut self, row: u8, screen: &Screen<'_>) -> u32
         requires { row < tiles_laws.rows }
@@ -236,7 +286,7 @@ impl Layer {
         self.redraw_row(row, screen)
     }
 
-    /// The same, looking at each of the cells.
+    /// The same, looking at each of the cells. Those that differ are drawn now if the row's lines are kept, and else once a line is taken.
     #[inline(never)]
     fn redraw_row(&mut self, row: u8, screen: &Screen<'_>) -> u32
         requires { row < tiles_laws.rows }
@@ -248,17 +298,15 @@ impl Layer {
     {
         let tiles = screen.tiles(row);
         let colours = screen.colours(row);
-        let place = row as usize;
-        refresh_cells(
-            &mut self.rows[place].lines,
-            &mut self.shadows[place],
-            &self.graphics,
-            &tiles,
-            &colours,
-        )
+        let shadow = &mut self.shadows[row as usize];
+        if self.row != row {
+            return take_cells(shadow, &tiles, &colours);
+        }
+        let lines = &mut self.kept.lines;
+        refresh_cells(lines, shadow, &self.graphics, &tiles, &colours)
     }
 
-    /// Draws those cells of the picture again that differ from what the screen has, and says how many they are.
+    /// Brings all rows to what the screen has, and says how many cells differ.
     pub(crate) fn refresh_all(&mut self, screen: &Screen<'_>) -> u32
         ensures layer { self.new ≡ record self.old
             { shadows = tabulate tiles_laws.rows (drawn_from screen.now) } }
@@ -271,14 +319,25 @@ impl Layer {
         drawn
     }
 
-    /// Fills a line with line y of the picture's cells, whose row is drawn.
+    /// Fills a line with line y of the picture's cells, whose row was drawn. Unless it's the row that the last line was taken from, its cells
+    /// are drawn now.
     #[inline]
-    pub(crate) fn line(&self, y: u8, out: &mut [u8; WIDTH])
+    pub(crate) fn line(&mut self, y: u8, out: &mut [u8; WIDTH])
         requires y { y < tile.height }
-        requires drawn { (shadow_at self.now.shadows (y / 8)).stale ≡ false }
-        ensures { out.new ≡ tabulate tile.width
-            (λ x. kept_dot self.now.roms (shadow_at self.now.shadows (y / 8)) x y) }
+        requires drawn { (shadow_at self.old.shadows (y / 8)).is_drawn ≡ true }
+        ensures same { self.new ≡ self.old }
+        ensures line { out.new ≡ tabulate tile.width
+            (λ x. kept_dot self.old.roms (shadow_at self.old.shadows (y / 8)) x y) }
     {
-        lay_line(&self.rows[(y / 8) as usize].lines, y % 8, out);
+        let row = y / 8;
+        let lines = &mut self.kept.lines;
+        keep(
+            row,
+            &mut self.row,
+            lines,
+            &self.shadows[row as usize],
+            &self.graphics,
+        );
+        lay_line(lines, y % 8, out);
     }
 }

@@ -1,5 +1,5 @@
 //! The picture of the board, 288 by 224 colour numbers: composed whole or line by line from what a program wrote,
-//! through a layer of tiles in which only cells that differ are drawn again.
+//! through the row of tiles that was drawn last.
 #![tactic(auto)]
 
 mod clean;

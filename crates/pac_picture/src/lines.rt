@@ -1,6 +1,6 @@
 //! The lines of a picture, as colour numbers.
 
-ghost use Rattle.std.specs.Prelude.{◌≡◌, ◌<◌, ◌/◌, ◌-◌, ℕ, [], true};
+ghost use Rattle.std.specs.Prelude.{◌≡◌, ◌<◌, ◌/◌, ◌-◌, ◌↔◌, ℕ, [], true};
 ghost use Rattle.std.specs.Prelude.{length, reverse, if◌then◌else◌, slice_index, slice_index_or};
 ghost use Rattle.std.specs.Prelude.{slice_set, EachIndex};
 ghost use Rattle.pac_num.specs.Tabulate.{tabulate};
@@ -18,7 +18,7 @@ use crate::clean::Clean;
 use crate::graphics::Graphics;
 use crate::layer::{Layer, lay_alone};
 use crate::painting::paint_unless_none;
-use crate::raw::RawLines;
+use crate::raw::{RawLines, copy_picture};
 use crate::screen::Screen;
 use crate::size::{HEIGHT, WIDTH, repeated};
 use std::marker::Model;
@@ -35,11 +35,12 @@ fn turn(out: &mut [u8; WIDTH], flip: bool)
 
 /// Composes line y of the shown picture, through a layer whose row of that line is drawn from the screen.
 #[inline]
-fn compose_line(layer: &Layer, screen: &Screen<'_>, y: u8, out: &mut [u8; WIDTH])
+fn compose_line(layer: &mut Layer, screen: &Screen<'_>, y: u8, out: &mut [u8; WIDTH])
     requires y { y < tile.height }
-    requires drawn { shadow_at layer.now.shadows (source_of screen.now y / 8)
+    requires drawn { shadow_at layer.old.shadows (source_of screen.now y / 8)
         ≡ drawn_from screen.now (source_of screen.now y / 8) }
-    ensures { out.new ≡ picture_line layer.now.roms screen.now y }
+    ensures layer { layer.new ≡ layer.old }
+    ensures line { out.new ≡ picture_line layer.old.roms screen.now y }
 {
     let source = screen.source(y);
     layer.line(source, out);
@@ -113,23 +114,36 @@ impl Lines {
         self.lines.copy_from_slice(lines);
     }
 
+    /// Takes all lines, if they are a picture's, which it answers; else all are of colour number 0.
+    pub(crate) fn take(&mut self, lines: &RawLines) -> bool
+        ensures picture { (result ≡ true) ↔ IsPicture lines.now }
+        ensures lines { self.new ≡ (if result then lines.now else black) }
+    {
+        if copy_picture(lines, &mut self.lines) {
+            return true;
+        }
+        self.lines = repeated([0; WIDTH]);
+        false
+    }
+
     /// Composes line y of the shown picture, through a layer whose row of that line is drawn from the screen: a line on
     /// which nothing has changed is there already.
     #[inline(always)]
     pub(crate) fn compose_line(
         &mut self,
         y: u8,
-        layer: &Layer,
+        layer: &mut Layer,
         screen: &Screen<'_>,
         clean: &mut Clean,
     )
         requires y { y < tile.height }
-        requires drawn { shadow_at layer.now.shadows (source_of screen.now y / 8)
+        requires drawn { shadow_at layer.old.shadows (source_of screen.now y / 8)
             ≡ drawn_from screen.now (source_of screen.now y / 8) }
-        requires clean { MarksClean clean.old layer.now self.old }
+        requires clean { MarksClean clean.old layer.old self.old }
         requires flip { clean.old.flip ≡ screen.now.flip }
-        ensures lines { self.new ≡ slice_set self.old y (picture_line layer.now.roms screen.now y) }
-        ensures clean { MarksClean clean.new layer.now self.new }
+        ensures layer { layer.new ≡ layer.old }
+        ensures lines { self.new ≡ slice_set self.old y (picture_line layer.old.roms screen.now y) }
+        ensures clean { MarksClean clean.new layer.old self.new }
         ensures flip { clean.new.flip ≡ clean.old.flip }
     {
         let source = screen.source(y);
@@ -141,9 +155,10 @@ impl Lines {
     }
 
     /// Composes all lines, through a layer that is drawn from the screen.
-    pub(crate) fn compose(&mut self, layer: &Layer, screen: &Screen<'_>)
-        requires { layer.now.shadows ≡ tabulate tiles_laws.rows (drawn_from screen.now) }
-        ensures { self.new ≡ picture_of layer.now.roms screen.now }
+    pub(crate) fn compose(&mut self, layer: &mut Layer, screen: &Screen<'_>)
+        requires { layer.old.shadows ≡ tabulate tiles_laws.rows (drawn_from screen.now) }
+        ensures layer { layer.new ≡ layer.old }
+        ensures lines { self.new ≡ picture_of layer.old.roms screen.now }
     {
         for y in 0..HEIGHT {
             compose_line(layer, screen, y, &mut self.lines[y as usize]);

@@ -1,6 +1,7 @@
 //! The picture as a board keeps it.
 
-ghost use Rattle.std.specs.Prelude.{◌≡◌, ◌<◌, ◌≤◌, ◌-◌, ◌/◌, [], false, length, map};
+ghost use Rattle.std.specs.Prelude.{◌≡◌, ◌<◌, ◌≤◌, ◌-◌, ◌/◌, ◌↔◌, [], true, false, length, map};
+ghost use Rattle.std.specs.Prelude.{if◌then◌else◌};
 ghost use Rattle.std.specs.Prelude.{replicate};
 ghost use Rattle.std.specs.Prelude.{slice_index, slice_index_or, slice_set, EachIndex};
 ghost use Rattle.pac_tiles.specs.Tiles as tile;
@@ -30,9 +31,10 @@ use std::marker::Model;
 /// shadows of the layer's rows and the count of cells that the last composing drew.
 #[derive(Drop)]
 pub struct Picture {
+    // (the lines before what has odd sizes, so that they lie where sixteen divides in a board, and vectors are written whole)
+    lines: Lines,
     layer: Layer,
     palette: [[u8; 3]; 16],
-    lines: Lines,
     clean: Clean,
     drawn: u32,
 }
@@ -70,8 +72,7 @@ fn palette(colours: &[u8; 32]) -> [[u8; 3]; 16]
     palette
 }
 
-/// Draws those cells of a row again that differ from what the screen has, and says how many they are: lines over cells that were drawn
-/// again are clean no more.
+/// Brings a row to what the screen has, and says how many of its cells differ: where some do, its lines are clean no more.
 #[inline(always)]
 fn draw_row(row: u8, screen: &Screen<'_>, layer: &mut Layer, clean: &mut Clean) -> u32
     requires { row < tiles_laws.rows }
@@ -259,19 +260,33 @@ impl Picture {
         self.layer.set_stale();
     }
 
-    /// Composes the whole picture that the screen shows. Of its 1,008 cells those are drawn again that differ from
-    /// what they were last drawn from, each with the other of its two; `drawn` says then how many differed.
+    /// Takes these lines, if they are a picture's, which it answers, and else lines of colour number 0; every cell counts as differing then.
+    pub fn take(&mut self, lines: &RawLines) -> bool
+        ensures taken { (result ≡ true) ↔ IsPicture lines.now }
+        ensures picture { self.new ≡ record self.old {
+          lines = (if result then lines.now else black);
+          shadows = map made_stale self.old.shadows;
+        } }
+        ensures stale { AreStale self.new.shadows }
+    {
+        self.clean.clear();
+        self.layer.set_stale();
+        self.lines.take(lines)
+    }
+
+    /// Composes the whole picture that the screen shows; `drawn` says then how many of its 1,008 cells differ from what they were last drawn
+    /// from.
     pub fn compose(&mut self, screen: &Screen<'_>)
         ensures { self.new ≡ composed_picture screen.now self.old }
     {
         self.clean.clear();
         self.drawn = self.layer.refresh_all(screen);
-        self.lines.compose(&self.layer, screen);
+        self.lines.compose(&mut self.layer, screen);
     }
 
-    /// Composes line y of the picture that the screen shows, 0 to 223, and leaves the others. Of the 36 cells of the
-    /// row that it shows those are drawn again that differ, each with the other of its two; `drawn` says then how many differed. The line
-    /// itself stays where neither a cell of this row nor a sprite on it has changed since it was composed.
+    /// Composes line y of the picture that the screen shows, 0 to 223, and leaves the others; `drawn` says then how many of the 36 cells of the
+    /// row that it shows differ from what they were last drawn from. The line itself stays where neither a cell of this row nor a sprite on it
+    /// has changed since it was composed.
     pub fn compose_line(&mut self, y: u8, screen: &Screen<'_>)
         requires { y < tile.height }
         ensures { self.new ≡ picture_with_line y screen.now self.old }
@@ -280,7 +295,7 @@ impl Picture {
         self.drawn = draw_row(row, screen, &mut self.layer, &mut self.clean);
         self.clean.turn(screen.flip());
         self.lines
-            .compose_line(y, &self.layer, screen, &mut self.clean);
+            .compose_line(y, &mut self.layer, screen, &mut self.clean);
     }
 
     /// Composes lines of the picture that the screen shows, from one to before another, and leaves the others; `drawn` stays.

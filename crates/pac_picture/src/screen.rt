@@ -168,7 +168,7 @@ impl<'a> Screen<'a> {
         requires { row < tiles_laws.rows }
         ensures { result ≡ true → shadow.now ≡ drawn_from self.now row }
     {
-        !shadow.stale
+        shadow.is_drawn
             && are_cells(self.tile_ram, row, &shadow.tiles)
             && are_cells(self.colour_ram, row, &shadow.colours)
     }

@@ -1,6 +1,7 @@
 //! The bytes that a row of cells was drawn from.
 
 ghost use Rattle.std.specs.Prelude.{◌≡◌};
+ghost use Rattle.pac_picture.specs.Layer.{shadow_from};
 ghost use Rattle.pac_picture.specs.LayerProofs.{made_stale, stale_row};
 
 use crate::size::{COLUMNS, RowBytes};
@@ -12,8 +13,9 @@ pub struct Shadow {
     pub tiles: RowBytes,
     /// The bytes of colour RAM.
     pub colours: RowBytes,
-    /// Whether every cell counts as differing, whatever its bytes are.
-    pub stale: bool,
+    /// Whether cells were drawn from these bytes; else every cell counts as differing. (So a shadow of zeros is one of a row that was never
+    /// drawn, and a board is made of zeros in few pieces.)
+    pub is_drawn: bool,
 }
 
 impl Shadow {
@@ -24,7 +26,7 @@ impl Shadow {
         Shadow {
             tiles: [0; COLUMNS],
             colours: [0; COLUMNS],
-            stale: true,
+            is_drawn: false,
         }
     }
 
@@ -33,6 +35,16 @@ impl Shadow {
     pub(crate) fn set_stale(&mut self)
         ensures { self.new ≡ made_stale self.old }
     {
-        self.stale = true;
+        self.is_drawn = false;
+    }
+
+    /// Takes the bytes that cells are drawn from.
+    #[inline(always)]
+    pub(crate) fn take(&mut self, tiles: &RowBytes, colours: &RowBytes)
+        ensures { self.new ≡ shadow_from tiles.now colours.now }
+    {
+        self.tiles = *tiles;
+        self.colours = *colours;
+        self.is_drawn = true;
     }
 }

@@ -1,9 +1,9 @@
 -- A state that is read back out of its text.
 use Rattle.pac_state.proofs.Common.{AreWords, Bits, BoardState, Bool, Due, FitsSample, InterruptMode, IsState, List, Option, Parts, Regs}
-use Rattle.pac_state.proofs.Common.{View, ap, arith, binary_digit, bits_of-byte_of, body, bytes_at_place, control_bytes, controls_in}
+use Rattle.pac_state.proofs.Common.{View, ap, arith, binary_digit, bits_of-byte_of, bytes_at_place, control_bytes, controls_in}
 use Rattle.pac_state.proofs.Common.{digest_of, due_bytes, due_of, from_le_bytes, from_le_bytes-to_le_bytes_2, from_le_bytes-to_le_bytes_4}
 use Rattle.pac_state.proofs.Common.{from_le_bytes-to_le_bytes_8, joined_pieces, lines_of, memory_of, mode_of, number_of_mode}
-use Rattle.pac_state.proofs.Common.{processor_bytes, refl, regs_of, rules, save_text, saved_word, sealed_file, state_in, w32, w64, ℕ, ℤ}
+use Rattle.pac_state.proofs.Common.{processor_bytes, refl, regs_of, rules, save_text, state_in, w32, w64, ℕ, ℤ}
 use Rattle.pac_state.proofs.Common.{◌<◌, ◌==◌, ◌^◌, ◌∙◌, ◌≡◌}
 use Rattle.pac_state.specs.Text as text
 use Rattle.pac_state.proofs.Read.{same-state}

@@ -1,9 +1,10 @@
 -- Blocks of states: what stands in them, and which bytes are blocks.
 use Rattle.pac_state.proofs.Common.{BoardState, Fields, IsBlock, IsFramed, IsPicture, IsState, IsStateInRange, IsText, IsWellFormed, List}
-use Rattle.pac_state.proofs.Common.{None, Option, ReadsBlock, ReadsFields, Some, [], ap, append_assoc, arith, block_text, body}
-use Rattle.pac_state.proofs.Common.{bytes_at_place, drop, file_front, file_size, flat_map, flat_map-split, from_le_bytes}
-use Rattle.pac_state.proofs.Common.{from_le_bytes-to_le_bytes_2, get_or, joined_pieces, length, length-append, no_digest, refl, state_in}
-use Rattle.pac_state.proofs.Common.{subst, sym, take, take_all, version_in, w16, written_version, ℕ, ◌++◌, ◌+◌, ◌<◌, ◌∙◌, ◌≡◌, ◌≤◌}
+use Rattle.pac_state.proofs.Common.{None, Option, ReadsBlock, ReadsBlockButLines, ReadsFields, ReadsFieldsButLines, Some, [], ap}
+use Rattle.pac_state.proofs.Common.{append_assoc, arith, block_text, body, bytes_at_place, drop, file_front, file_size, flat_map}
+use Rattle.pac_state.proofs.Common.{flat_map-split, from_le_bytes, from_le_bytes-to_le_bytes_2, get_or, joined_pieces, length}
+use Rattle.pac_state.proofs.Common.{length-append, no_digest, refl, state_in, subst, sym, take, take_all, version_in, w16}
+use Rattle.pac_state.proofs.Common.{written_version, ℕ, ◌++◌, ◌+◌, ◌<◌, ◌∙◌, ◌≡◌, ◌≤◌}
 use Rattle.pac_state.proofs.Again.{same-again}
 use Rattle.pac_state.proofs.Files.{sizes}
 use Rattle.pac_state.proofs.Whole.{AreBytes, part-add, body-is}
@@ -88,6 +89,18 @@ reads-block bytes fits size framed (Some fields) reads = record {
   in_range = reads.in_range;
 }
 reads-block bytes fits size framed None reads = λ (block : IsBlock bytes). reads (text-of-block bytes size block)
+
+-- the same, where the lines may be none of a picture
+pub reads-block-but-lines : (bytes : List ℕ) → ((i : ℕ) → get_or bytes i 0 < 256) → length bytes ≡ file_size → IsFramed bytes
+    → (result : Option Fields) → ReadsFieldsButLines bytes result → ReadsBlockButLines bytes result
+unfolding AreBytes
+reads-block-but-lines bytes fits size framed (Some fields) reads = record {
+  block = λ range. block-of bytes fits size framed (reads.text range);
+  state = reads.state;
+  in_range = reads.in_range;
+  all = λ block. reads.all (text-of-block bytes size block);
+}
+reads-block-but-lines bytes fits size framed None reads = λ (block : IsBlock bytes). reads (text-of-block bytes size block)
 
 -- ---- pieces written one after another
 

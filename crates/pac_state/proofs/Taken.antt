@@ -1,6 +1,7 @@
 -- What is known of a file that was looked at.
-use Rattle.pac_state.proofs.Common.{AreBoardFields, BoardState, Bool, Fields, IsStateInRange, List, LoadFault, None, Option, Some, arith}
-use Rattle.pac_state.proofs.Common.{eqb-true, file_size, if◌then◌else◌, length, load_fault, not, rules, state_of, true, ℕ, ◌≡◌}
+use Rattle.pac_state.proofs.Common.{AreBoardFields, AreFieldsButLines, BoardState, Bool, Fields, IsStateInRange, List, LoadFault, None}
+use Rattle.pac_state.proofs.Common.{Option, Some, arith, eqb-true, file_size, if◌then◌else◌, length, load_fault, not, rules, state_of}
+use Rattle.pac_state.proofs.Common.{true, ℕ, ◌≡◌}
 
 -- the rest of a search that finds nothing
 pub below : (found : Bool) (fault : LoadFault) (rest : Option LoadFault) → (if found then Some fault else rest) ≡ None → rest ≡ None
@@ -20,3 +21,7 @@ in-range fields state same range = search rules
 
 pub range-of : (fields : Fields) (state : BoardState) → state_of fields ≡ state → IsStateInRange state → AreBoardFields fields
 range-of fields state same range = search rules
+
+-- fields whose lines are a picture's
+pub but-lines : (fields : Fields) → AreBoardFields fields → AreFieldsButLines fields
+but-lines fields range = search rules

@@ -2,6 +2,7 @@
 use Rattle.std.specs.Prelude.{◌≡◌, ℕ, List, Option, Some, None}
 use Rattle.pac_board.specs.BoardFields.{Fields}
 use Rattle.pac_board.specs.Fields.{state_of, AreBoardFields}
+use Rattle.pac_board.specs.FieldsProofs.{AreFieldsButLines}
 use Rattle.pac_state.specs.Text.{magic, written_version}
 use Rattle.pac_state.specs.Reading.{bytes_at_place, state_in}
 use Rattle.pac_state.specs.Saved.{version_in, IsText}
@@ -17,6 +18,16 @@ pub record IsFramed (bytes : List ℕ) : Type 0 where
   pub magic : magic ≡ bytes_at_place 0 8 bytes
   pub version : version_in bytes ≡ written_version
   pub digests : HasNoDigests bytes
+
+-- the fields that stand in bytes as they are written, where all but the lines are a state's: they are one where those are a picture's
+abbrev pub ReadsFieldsButLines : List ℕ → Option Fields → Type 0
+ReadsFieldsButLines bytes (Some fields) = record {
+  text : AreBoardFields fields → IsText bytes;
+  state : state_of fields ≡ state_in bytes;
+  in_range : AreFieldsButLines fields;
+  all : IsText bytes → AreBoardFields fields;
+}
+ReadsFieldsButLines bytes None = IsText bytes → ⊥
 
 -- the fields that stand in bytes, where they are a state's and stand there as they are written
 abbrev pub ReadsFields : List ℕ → Option Fields → Type 0

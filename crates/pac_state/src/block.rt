@@ -15,7 +15,7 @@ ghost use Rattle.pac_state.specs.Saved as saved;
 use crate::front::{front, put_at};
 use crate::header::{MAGIC, VERSION, part, word};
 use crate::ranges::in_range;
-use crate::reading::{fields_in, lines_of};
+use crate::reading::{fields_but_lines_in, fields_in, lines_of};
 use crate::sizes::{BODY_SIZE, FILE_SIZE, FRONT_SIZE};
 use pac_board::{Fields, RawLines};
 
@@ -44,6 +44,18 @@ pub fn read_block(block: &[u8; FILE_SIZE]) -> Option<Fields<'_>>
 {
     if is_framed(block) {
         fields_in(block)
+    } else {
+        None
+    }
+}
+
+/// The fields in a block, if all but the lines, which may be none of a picture, are those of the block of a state that a board can have: for
+/// whoever copies the lines, and looks at them meanwhile.
+pub fn read_block_but_lines(block: &[u8; FILE_SIZE]) -> Option<Fields<'_>>
+    ensures { block_proofs.ReadsBlockButLines block.now result }
+{
+    if is_framed(block) {
+        fields_but_lines_in(block)
     } else {
         None
     }

@@ -2,10 +2,11 @@
 
 ghost use Rattle.std.specs.Prelude.{◌≡◌, ◌↔◌, ◌<◌, ◌≤◌, ◌*◌, ◌+◌, true, length, slice_index};
 ghost use Rattle.pac_board.specs.Fields.{state_of, AreBoardFields};
+ghost use Rattle.pac_board.specs.FieldsProofs.{AreFieldsButLines};
 ghost use Rattle.pac_board.specs.Inputs as inputs;
 ghost use Rattle.pac_board.specs.MemoryFields.{view_of_fields};
 ghost use Rattle.pac_board.specs.Tiles as tile;
-ghost use Rattle.pac_state.specs.Framed.{ReadsFields};
+ghost use Rattle.pac_state.specs.Framed.{ReadsFields, ReadsFieldsButLines};
 ghost use Rattle.pac_state.specs.Reading as read;
 ghost use Rattle.pac_state.specs.Saved as saved;
 ghost use Rattle.pac_state.specs.Text as text;
@@ -169,13 +170,27 @@ fn are_written(fields: &Fields, bytes: &[u8]) -> bool
         && due(fields.due) == *part(bytes, 3221)
 }
 
-/// Whether fields that were read from a file are a state's, and stand there as they are written.
-fn is_taken(fields: &Fields, bytes: &[u8]) -> bool
+/// Whether fields that were read from a file stand there as they are written, and all but the lines are a state's.
+fn are_but_lines_taken(fields: &Fields, bytes: &[u8]) -> bool
     requires { length bytes.now ≡ saved.file_size }
     ensures { (result ≡ true)
-        ↔ (AreBoardFields fields.now × saved.AreWritten (state_of fields.now) bytes.now) }
+        ↔ (AreFieldsButLines fields.now × saved.AreWritten (state_of fields.now) bytes.now) }
 {
-    fields.are_in_range() && are_written(fields, bytes)
+    fields.are_but_lines_in_range() && are_written(fields, bytes)
+}
+
+/// The fields that stand in bytes of a file's size, if they stand there as they are written, and all but the lines, which may be none of a
+/// picture, are a state's.
+pub(crate) fn fields_but_lines_in(bytes: &[u8]) -> Option<Fields<'_>>
+    requires { length bytes.now ≡ saved.file_size }
+    ensures { ReadsFieldsButLines bytes.now result }
+{
+    let fields = fields(bytes);
+    if are_but_lines_taken(&fields, bytes) {
+        Some(fields)
+    } else {
+        None
+    }
 }
 
 /// The fields that stand in bytes of a file's size, if they are a state's and stand there as they are written.
@@ -183,10 +198,14 @@ pub(crate) fn fields_in(bytes: &[u8]) -> Option<Fields<'_>>
     requires { length bytes.now ≡ saved.file_size }
     ensures { ReadsFields bytes.now result }
 {
-    let fields = fields(bytes);
-    if is_taken(&fields, bytes) {
-        Some(fields)
-    } else {
-        None
+    match fields_but_lines_in(bytes) {
+        Some(fields) => {
+            if fields.are_in_range() {
+                Some(fields)
+            } else {
+                None
+            }
+        }
+        None => None,
     }
 }

@@ -27,10 +27,10 @@ loop-y-preserved c = record {
   done = line-on c.args.layer.now.roms c.args.screen.now c.args.lines.now c.args.first c.loop-y.y c.loop-y.lines _ c.loop-y.auto.y
       c.loop-y.invariant.done
       (rw (c.draw_other_row.ensures.roms, c.loop-y.invariant.roms) at c.compose_line.ensures.lines);
-  roms = c.draw_other_row.ensures.roms ∙ c.loop-y.invariant.roms;
-  clean = c.compose_line.ensures.clean;
+  roms = rw c.compose_line.ensures.layer (c.draw_other_row.ensures.roms ∙ c.loop-y.invariant.roms);
+  clean = rw c.compose_line.ensures.layer c.compose_line.ensures.clean;
   flip = c.compose_line.ensures.flip ∙ c.draw_other_row.ensures.flip ∙ c.loop-y.invariant.flip;
-  drawn = λ below. c.draw_other_row.ensures.drawn;
+  drawn = λ below. rw c.compose_line.ensures.layer c.draw_other_row.ensures.drawn;
 }
 
 pub returns : goal.returns

@@ -17,10 +17,10 @@ returns-clause-clean c =
     (line-marked c.args.layer.now.roms c.args.screen.now c.args.clean.now.lines c.args.clean.now.flip c.args.clean.now.sprites
     c.args.layer.now.shadows c.self.inside.lines c.args.y c.source-source.result c.compose_line.new.out c.sprite_bytes.result
     (rw (← c.self.view_is) at c.requires.clean) c.requires.y (search rules) (search rules) c.self.invariant.high
-    c.source-source.ensures.line c.requires.flip c.requires.drawn c.sprite_bytes.ensures c.compose_line.ensures)
+    c.source-source.ensures.line c.requires.flip c.requires.drawn c.sprite_bytes.ensures c.compose_line.ensures.line)
 
 pub invariant_of-self : goal.invariant_of-self
 invariant_of-self c =
     set-picture c.self.inside.lines c.args.y c.compose_line.new.out c.self.invariant c.requires.y
-    (rw c.compose_line.ensures (length-line_of c.args.layer.now.roms c.args.screen.now c.args.y))
-    (λ x. rw c.compose_line.ensures (line-below c.args.layer.now.roms c.args.screen.now c.args.y x))
+    (rw c.compose_line.ensures.line (length-line_of c.args.layer.now.roms c.args.screen.now c.args.y))
+    (λ x. rw c.compose_line.ensures.line (line-below c.args.layer.now.roms c.args.screen.now c.args.y x))
