@@ -76,12 +76,12 @@ impl Breakpoints {
         self.marks[usize::from(address)] = 0;
     }
 
-    /// Where steps are to stop: at each of them if they are heeded, and otherwise nowhere.
+    /// Where steps are to stop: at each of them if they are heeded, and otherwise nowhere. Where there are none, no step looks for one.
     #[inline]
     pub fn stops(&self, heeded: bool) -> Stops<'_>
         ensures { AreStops result (heeded_if heeded self.now) }
     {
-        if heeded {
+        if heeded && !self.list.is_empty() {
             return Stops::at(&self.marks);
         }
         Stops::none()
