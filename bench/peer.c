@@ -1,13 +1,14 @@
-/* Holds the event-driven board in C against the proved one, frame by frame, and times both. bench/peer.py builds and calls it.
+/* Holds the event-driven board in C against the proved one, in a block and live, frame by frame, and times all three. bench/peer.py builds it.
  *
  *     peer check SWITCHES FRAMES ROMS HELD [STATE]    compares; the last line is how much was compared, and the exit status 1 where something differs
- *     peer time ROUNDS FRAMES ROMS HELD               the least microseconds a frame of each in some rounds, in which they take turns
+ *     peer time FRAMES ROMS HELD                      a line for each twenty frames: microseconds by pac_exec, by pac_live_exec and by the board in C
  *     peer library FRAMES ROMS HELD                   plays once by pac_exec alone: for callgrind, by the function play_library
+ *     peer live FRAMES ROMS HELD                      the same by pac_live_exec: play_live
  *     peer events FRAMES ROMS HELD                    the same by the board in C: play_events
  *
  * ROMS is a ROM block, HELD has two bytes for each frame, after which nothing is held, and STATE is a state file with which both begin.
  */
-#define _POSIX_C_SOURCE 199309L
+#define _POSIX_C_SOURCE 200112L
 #include <stdio.h>
 #include <stdlib.h>
 #include <string.h>
@@ -16,10 +17,12 @@
 #include "../conformance/core.h"
 #include "../hosts/pacboard.h"
 
-enum { LONGEST = 36000, FIRST = 30, END = PAC_STATE_SIZE - 20 }; /* of a block: where its digests end and begin */
+enum { LONGEST = 36000, TOGETHER = 20 /* frames that are timed together */ };
+enum { FIRST = 30, END = PAC_STATE_SIZE - 20 }; /* of a block: where its digests end and begin */
 
 static uint8_t roms[PAC_ROMS_SIZE + 1], held[2 * LONGEST], state[PAC_STATE_SIZE + 1];
 static pac_board board;
+static pac_live live;
 static int16_t samples[PAC_FRAME_SAMPLES + 2];
 static unsigned long frames;
 
@@ -49,13 +52,13 @@ static uint16_t inputs(unsigned long frame)
     return frame < LONGEST ? (uint16_t)(held[2 * frame] | held[2 * frame + 1] << 8) : 0;
 }
 
-/* Plays all frames by the library: the sum of all codes. */
-__attribute__((noinline)) static uint32_t play_library(void)
+/* Plays frames, from one to before another, by the library: the sum of all codes. */
+__attribute__((noinline)) static uint32_t play_library(unsigned long first, unsigned long end)
 {
     uint32_t codes = 0;
     pac_ran ran;
 
-    for (unsigned long frame = 0; frame < frames; frame++) {
+    for (unsigned long frame = first; frame < end; frame++) {
         if (frame == 0 || inputs(frame) != inputs(frame - 1))
             codes += pac_hold(&board, inputs(frame), 0xFFFF);
         codes += pac_exec(&board, roms, PAC_ROMS_SIZE, PAC_FRAME_MICROSECONDS, samples, PAC_FRAME_SAMPLES + 2, &ran);
@@ -63,12 +66,26 @@ __attribute__((noinline)) static uint32_t play_library(void)
     return codes;
 }
 
-/* Plays all frames by the board in C: how many stopped. */
-__attribute__((noinline)) static uint32_t play_events(void *core)
+/* The same by the live board. */
+__attribute__((noinline)) static uint32_t play_live(unsigned long first, unsigned long end)
+{
+    uint32_t codes = 0;
+    pac_ran ran;
+
+    for (unsigned long frame = first; frame < end; frame++) {
+        if (frame == 0 || inputs(frame) != inputs(frame - 1))
+            codes += pac_live_hold(&live, inputs(frame), 0xFFFF);
+        codes += pac_live_exec(&live, PAC_FRAME_MICROSECONDS, samples, PAC_FRAME_SAMPLES + 2, &ran);
+    }
+    return codes;
+}
+
+/* Plays frames by the board in C: how many stopped. */
+__attribute__((noinline)) static uint32_t play_events(void *core, unsigned long first, unsigned long end)
 {
     uint32_t codes = 0;
 
-    for (unsigned long frame = 0; frame < frames; frame++) {
+    for (unsigned long frame = first; frame < end; frame++) {
         core_hold(core, inputs(frame));
         codes += (uint32_t)core_frame(core);
     }
@@ -84,39 +101,51 @@ static double now(void)
     return (double)at.tv_sec * 1e6 + (double)at.tv_nsec / 1e3;
 }
 
-/* Makes both boards anew. */
-static void *both_made(uint8_t switches)
+/* Makes all three boards. */
+static void *all_made(uint8_t switches)
 {
     void *core = core_make(roms, switches);
 
-    if (core == NULL || pac_init(&board, roms, PAC_ROMS_SIZE, switches) != PAC_DONE)
+    live.size = (pac_live_size() + 15) / 16 * 16;
+    if (core == NULL || posix_memalign(&live.at, 16, live.size) != 0 || pac_init(&board, roms, PAC_ROMS_SIZE, switches) != PAC_DONE ||
+        pac_live_open(&live, roms, PAC_ROMS_SIZE, switches) != PAC_DONE)
         fail("no board is made", "roms");
     return core;
 }
 
-/* Times both in turn, and tells the least time of each. */
-static int time_both(unsigned long rounds)
+/* Where the frames end that are timed together, which begin at one. */
+static unsigned long end_from(unsigned long first)
 {
-    double least[2] = {1e300, 1e300};
+    return frames - first < TOGETHER ? frames : first + TOGETHER;
+}
 
-    for (unsigned long round = 0; round < rounds; round++) {
-        void *core = both_made(PAC_SWITCHES);
-        double at[3];
-        uint32_t codes;
+/* Times all, one after the other, some frames at a time. */
+static int time_all(void)
+{
+    static double took[3][LONGEST / TOGETHER + 1];
+    void *core = all_made(PAC_SWITCHES);
+    uint32_t codes = 0;
 
-        at[0] = now();
-        codes = play_library();
-        at[1] = now();
-        codes += play_events(core);
-        at[2] = now();
-        core_free(core);
-        if (codes != 0)
-            fail("a call is refused, or a board stops", "time");
-        for (int which = 0; which < 2; which++)
-            if (at[which + 1] - at[which] < least[which])
-                least[which] = at[which + 1] - at[which];
+    for (unsigned long first = 0; first < frames; first = end_from(first)) {
+        double begun = now();
+        codes += play_library(first, end_from(first));
+        took[0][first / TOGETHER] = now() - begun;
     }
-    printf("%.2f %.2f\n", least[0] / (double)frames, least[1] / (double)frames);
+    for (unsigned long first = 0; first < frames; first = end_from(first)) {
+        double begun = now();
+        codes += play_live(first, end_from(first));
+        took[1][first / TOGETHER] = now() - begun;
+    }
+    for (unsigned long first = 0; first < frames; first = end_from(first)) {
+        double begun = now();
+        codes += play_events(core, first, end_from(first));
+        took[2][first / TOGETHER] = now() - begun;
+    }
+    core_free(core);
+    if (codes != 0)
+        fail("a call is refused, or a board stops", "time");
+    for (unsigned long first = 0; first < frames; first = end_from(first))
+        printf("%.2f %.2f %.2f\n", took[0][first / TOGETHER], took[1][first / TOGETHER], took[2][first / TOGETHER]);
     return 0;
 }
 
@@ -148,15 +177,32 @@ static int compare(void *core, unsigned long frame, const pac_ran *ran)
            differs("block", frame, board.bytes + FIRST, state + FIRST, END - FIRST);
 }
 
+/* Has the live board play the same frame, and compares what it tells, its samples and its block. */
+static int compare_live(unsigned long frame, const pac_ran *ran)
+{
+    static int16_t others[PAC_FRAME_SAMPLES + 2];
+    static pac_board given;
+    pac_ran told = {0};
+
+    if (pac_live_hold(&live, inputs(frame), 0xFFFF) != PAC_DONE ||
+        pac_live_exec(&live, PAC_FRAME_MICROSECONDS, others, PAC_FRAME_SAMPLES + 2, &told) != PAC_DONE || pac_live_give(&live, &given) != PAC_DONE)
+        fail("a call of the live board is refused", "check");
+    if (told.ticks != ran->ticks || told.samples != ran->samples || told.pictures != ran->pictures || told.stop != ran->stop)
+        return printf("frame %lu: the live board tells something else\n", frame + 1), 1;
+    return differs("the live board's samples", frame, (const uint8_t *)samples, (const uint8_t *)others, ran->samples * sizeof *samples) ||
+           differs("the live board", frame, (const uint8_t *)&board, (const uint8_t *)&given, sizeof board);
+}
+
 /* Plays both frame by frame, from a state where one is given, and compares all of each. */
 static int check(uint8_t switches, const char *from)
 {
-    void *core = both_made(switches);
+    void *core = all_made(switches);
     unsigned long frame = 0, heard = 0;
     int is_stopped = 0;
 
     if (from != NULL && (read_file(from, state, sizeof state) != PAC_STATE_SIZE || core_load(core, state) != 0 ||
-                         pac_load(&board, roms, PAC_ROMS_SIZE, state, PAC_STATE_SIZE) != PAC_DONE))
+                         pac_load(&board, roms, PAC_ROMS_SIZE, state, PAC_STATE_SIZE) != PAC_DONE ||
+                         pac_live_load(&live, state, PAC_STATE_SIZE) != PAC_DONE))
         fail("the state is refused", from);
     for (; frame < frames && !is_stopped; frame++) {
         pac_ran ran;
@@ -168,7 +214,7 @@ static int check(uint8_t switches, const char *from)
             fail("a call is refused", "check");
         if ((ran.stop != PAC_GOES) != is_stopped)
             return printf("frame %lu: one board stops\n", frame + 1), 1;
-        if (compare(core, frame, &ran))
+        if (compare(core, frame, &ran) || compare_live(frame, &ran))
             return 1;
         heard += ran.samples;
     }
@@ -179,18 +225,22 @@ static int check(uint8_t switches, const char *from)
 
 int main(int count, char **words)
 {
-    int numbers = count > 1 && (strcmp(words[1], "check") == 0 || strcmp(words[1], "time") == 0) ? 2 : 1;
+    int numbers = count > 1 && strcmp(words[1], "check") == 0 ? 2 : 1;
 
     if (count != numbers + 4 && !(count == 7 && strcmp(words[1], "check") == 0))
         return fprintf(stderr, "peer: usage: see the head of bench/peer.c\n"), 2;
     frames = strtoul(words[numbers + 1], NULL, 10);
+    if (frames > LONGEST)
+        fail("that many frames aren't kept", "FRAMES");
     if (read_file(words[numbers + 2], roms, sizeof roms) != PAC_ROMS_SIZE)
         fail("it is no ROM block", words[numbers + 2]);
     read_file(words[numbers + 3], held, sizeof held);
     if (strcmp(words[1], "check") == 0)
         return check((uint8_t)strtoul(words[2], NULL, 10), count == 7 ? words[6] : NULL);
     if (strcmp(words[1], "time") == 0)
-        return time_both(strtoul(words[2], NULL, 10));
-    void *core = both_made(PAC_SWITCHES);
-    return (int)(strcmp(words[1], "library") == 0 ? play_library() : play_events(core));
+        return time_all();
+    void *core = all_made(PAC_SWITCHES);
+    if (strcmp(words[1], "live") == 0)
+        return (int)play_live(0, frames);
+    return (int)(strcmp(words[1], "library") == 0 ? play_library(0, frames) : play_events(core, 0, frames));
 }

@@ -4,12 +4,14 @@
     bench/peer.py [--rounds N] [--count] [--only NAME,..] [--library FILE]
 
 bench/events.c and bench/z80.c are the board; it makes samples and lines only when something that they depend on is written. bench/peer.c plays it
-beside hosts/out/libpac_host.a, which hosts/build leaves, and first compares, after each frame, every sample, every pixel and all of the block, in
-which are RAM, registers and counts: over the examples, the programs of bench/, the programs and states of conformance/, more random programs made
-as those are, and the programs of boards.toml in tools. Where anything differs the script ends with status 1, and nothing is timed.
+beside hosts/out/libpac_host.a, which hosts/build leaves, by pac_exec and by a live board, and first compares, after each frame, every sample, every
+pixel and all of the block, in which are RAM, registers and counts: over the examples, the programs of bench/, the programs and states of
+conformance/, more random programs made as those are, and the programs of boards.toml in tools. Where anything differs the script ends with status
+1, and nothing is timed.
 
-Then, in each of N rounds (9), the library, the board in C and plain Rust (bench/bench.rs, where rustc is there) take turns at 600 frames of each
-program, with nothing held that its script doesn't hold. Printed are the least microseconds a frame and the library's over each peer's. --count has
+Then, in each of N rounds (9), pac_exec, pac_live_exec, the board in C and plain Rust (bench/bench.rs, where rustc is there) take turns at 600
+frames of each program, with nothing held that its script doesn't hold. Of each twenty frames the least time in all rounds counts, since a machine
+that others share is seldom left alone for all 600: printed are the sums of these, in microseconds a frame, and ratios. --count has
 valgrind's callgrind count the instructions of the same frames instead, which don't depend on what else the machine does.
 """
 import argparse
@@ -181,17 +183,19 @@ def counted(words: list[str], function: str) -> float:
 
 
 def measure(room: pathlib.Path, peer: pathlib.Path, plain: pathlib.Path | None, programs: list[Program], rounds: int) -> dict[str, list[float]]:
-    """The least microseconds a frame of the library, the board in C and plain Rust, of each program."""
-    least: dict[str, list[float]] = {}
+    """The microseconds a frame of both calls, the board in C and plain Rust, of each program: of each twenty frames by the least of all rounds."""
+    least: dict[str, list[list[float]]] = {}
     files = {program.name: program.lay(room) for program in programs}
     folders = {program.name: lay_plain(room, program) for program in programs} if plain else {}
     for _ in range(rounds):
         for name, laid in files.items():
-            times = [float(word) for word in run(peer, "time", "1", str(FRAMES), *laid).split()]
+            told = [line.split() for line in run(peer, "time", str(FRAMES), *laid).splitlines()]
             if plain:
-                times.append(float(run(plain, "frames", folders[name]).split()[0]))
-            least[name] = [min(pair) for pair in zip(times, least.get(name, times))]
-    return least
+                told = [[*line, more] for line, more in zip(told, run(plain, "frames", folders[name]).split(), strict=True)]
+            times = [[float(word) for word in line] for line in told]
+            before = least.get(name, times)
+            least[name] = [[min(pair) for pair in zip(*lines, strict=True)] for lines in zip(times, before, strict=True)]
+    return {name: [sum(column) / FRAMES for column in zip(*rows)] for name, rows in least.items()}
 
 
 def count(room: pathlib.Path, peer: pathlib.Path, plain: pathlib.Path | None, programs: list[Program]) -> dict[str, list[float]]:
@@ -199,7 +203,7 @@ def count(room: pathlib.Path, peer: pathlib.Path, plain: pathlib.Path | None, pr
     found = {}
     for program in programs:
         laid = program.lay(room)
-        found[program.name] = [counted([str(peer), which, str(FRAMES), *laid], f"play_{which}") / 1000 for which in ("library", "events")]
+        found[program.name] = [counted([str(peer), which, str(FRAMES), *laid], f"play_{which}") / 1000 for which in ("library", "live", "events")]
         if plain:
             found[program.name].append(counted([str(plain), "frames", lay_plain(room, program)], "*play_frames*") / 1000)
     return found
@@ -226,10 +230,12 @@ def main() -> int:
         timed = [program for program in mine if program.name in words.only.split(",")]
         rows = count(room, peer, plain, timed) if words.count else measure(room, peer, plain, timed, words.rounds)
         unit = "thousands of instructions" if words.count else "microseconds"
-        print(f"\n| {unit} a frame | pac_exec | events in C | plain Rust | to events | to plain |\n|---|---|---|---|---|---|")
-        for name, row in rows.items():
-            ratios = " | ".join(f"{row[0] / other:.2f}" for other in row[1:])
-            print(f"| {name} | " + " | ".join(f"{number:.1f}" for number in row) + f" | {ratios} |", flush=True)
+        print(f"\n| {unit} a frame | pac_exec | pac_live_exec | events in C | plain Rust | to events | live to events | to plain |")
+        print("|---" * 8 + "|")
+        for name, (exec_, live, events, *rest) in rows.items():
+            ratios = [exec_ / events, live / events, *(exec_ / other for other in rest)]
+            numbers = [f"{number:.1f}" for number in (exec_, live, events, *rest)] + [f"{ratio:.2f}" for ratio in ratios]
+            print(f"| {name} | " + " | ".join(numbers) + " |", flush=True)
     return 0
 
 
