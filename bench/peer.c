@@ -17,9 +17,10 @@
 #include "../conformance/core.h"
 #include "../hosts/pacboard.h"
 
-enum { LONGEST = 36000, TOGETHER = 20 /* frames that are timed together */ };
+enum { LONGEST = 36000, TOGETHER = 20 /* frames that are timed together, as in bench.rs */, KINDS = 3 };
 enum { FIRST = 30, END = PAC_STATE_SIZE - 20 }; /* of a block: where its digests end and begin */
 
+static const char *const names[KINDS] = {"library", "live", "events"};
 static uint8_t roms[PAC_ROMS_SIZE + 1], held[2 * LONGEST], state[PAC_STATE_SIZE + 1];
 static pac_board board;
 static pac_live live;
@@ -92,6 +93,12 @@ __attribute__((noinline)) static uint32_t play_events(void *core, unsigned long 
     return codes;
 }
 
+/* Plays frames by one of them, in the order of their names. */
+static uint32_t play(int which, void *core, unsigned long first, unsigned long end)
+{
+    return which == 0 ? play_library(first, end) : which == 1 ? play_live(first, end) : play_events(core, first, end);
+}
+
 /* Microseconds of a clock. */
 static double now(void)
 {
@@ -122,25 +129,18 @@ static unsigned long end_from(unsigned long first)
 /* Times all, one after the other, some frames at a time. */
 static int time_all(void)
 {
-    static double took[3][LONGEST / TOGETHER + 1];
+    static double took[KINDS][LONGEST / TOGETHER + 1];
     void *core = all_made(PAC_SWITCHES);
     uint32_t codes = 0;
 
-    for (unsigned long first = 0; first < frames; first = end_from(first)) {
-        double begun = now();
-        codes += play_library(first, end_from(first));
-        took[0][first / TOGETHER] = now() - begun;
-    }
-    for (unsigned long first = 0; first < frames; first = end_from(first)) {
-        double begun = now();
-        codes += play_live(first, end_from(first));
-        took[1][first / TOGETHER] = now() - begun;
-    }
-    for (unsigned long first = 0; first < frames; first = end_from(first)) {
-        double begun = now();
-        codes += play_events(core, first, end_from(first));
-        took[2][first / TOGETHER] = now() - begun;
-    }
+    if (frames > LONGEST)
+        fail("so many frames have no room", "time");
+    for (int which = 0; which < KINDS; which++)
+        for (unsigned long first = 0; first < frames; first = end_from(first)) {
+            double begun = now();
+            codes += play(which, core, first, end_from(first));
+            took[which][first / TOGETHER] = now() - begun;
+        }
     core_free(core);
     if (codes != 0)
         fail("a call is refused, or a board stops", "time");
@@ -187,13 +187,14 @@ static int compare_live(unsigned long frame, const pac_ran *ran)
     if (pac_live_hold(&live, inputs(frame), 0xFFFF) != PAC_DONE ||
         pac_live_exec(&live, PAC_FRAME_MICROSECONDS, others, PAC_FRAME_SAMPLES + 2, &told) != PAC_DONE || pac_live_give(&live, &given) != PAC_DONE)
         fail("a call of the live board is refused", "check");
-    if (told.ticks != ran->ticks || told.samples != ran->samples || told.pictures != ran->pictures || told.stop != ran->stop)
+    if (told.ticks != ran->ticks || told.samples != ran->samples || told.pictures != ran->pictures || told.stop != ran->stop ||
+        told.pc != ran->pc || told.vector != ran->vector || memcmp(told.bytes, ran->bytes, sizeof told.bytes) != 0)
         return printf("frame %lu: the live board tells something else\n", frame + 1), 1;
     return differs("the live board's samples", frame, (const uint8_t *)samples, (const uint8_t *)others, ran->samples * sizeof *samples) ||
            differs("the live board", frame, (const uint8_t *)&board, (const uint8_t *)&given, sizeof board);
 }
 
-/* Plays both frame by frame, from a state where one is given, and compares all of each. */
+/* Plays all three frame by frame, from a state where one is given, and compares all of each. */
 static int check(uint8_t switches, const char *from)
 {
     void *core = all_made(switches);
@@ -230,8 +231,6 @@ int main(int count, char **words)
     if (count != numbers + 4 && !(count == 7 && strcmp(words[1], "check") == 0))
         return fprintf(stderr, "peer: usage: see the head of bench/peer.c\n"), 2;
     frames = strtoul(words[numbers + 1], NULL, 10);
-    if (frames > LONGEST)
-        fail("that many frames aren't kept", "FRAMES");
     if (read_file(words[numbers + 2], roms, sizeof roms) != PAC_ROMS_SIZE)
         fail("it is no ROM block", words[numbers + 2]);
     read_file(words[numbers + 3], held, sizeof held);
@@ -240,7 +239,8 @@ int main(int count, char **words)
     if (strcmp(words[1], "time") == 0)
         return time_all();
     void *core = all_made(PAC_SWITCHES);
-    if (strcmp(words[1], "live") == 0)
-        return (int)play_live(0, frames);
-    return (int)(strcmp(words[1], "library") == 0 ? play_library(0, frames) : play_events(core, 0, frames));
+    for (int which = 0; which < KINDS; which++)
+        if (strcmp(words[1], names[which]) == 0)
+            return (int)play(which, core, 0, frames);
+    fail("no board has this name", words[1]);
 }
