@@ -168,20 +168,39 @@ def lay_kit(to, kept):
     return to / "bin/rt"
 
 
-def compile_checked(folder, crate, checked):
-    """Compiles a program that is checked, in a folder where it's laid over a copy of the kit, and links it, as `rt ci` does."""
+def words_for(folder, crate):
+    """The words by which the kit's `rattle` reads a crate that is laid in a folder, and those of a check alone."""
     rtlib = kit_module()
     os.chdir(folder)
     words = next(it for it in rtlib.crates_below(str(folder)) if it.name == crate).words(["--jobs", "1"], keeps=False)
-    for flag in ("--logic-built", "--jobs"):  # (they are of a check alone)
-        del words[words.index(flag) : words.index(flag) + 2]
-    copy, at, made = folder / "kit", folder / "crates" / crate, f"out/{crate}"
+    places = [words.index(flag) for flag in ("--logic-built", "--jobs")]
+    alone = [at + more for at in places for more in (0, 1)]
+    return [word for at, word in enumerate(words) if at not in alone], [words[at] for at in alone]
+
+
+def check(folder, crate, to):
+    """Checks a crate that is laid in a folder, of which those below are proved, and keeps what is checked in another, to be compiled."""
+    words, flags = words_for(folder, crate)
+    shutil.rmtree(to, ignore_errors=True)
+    to.parent.mkdir(parents=True, exist_ok=True)
+    run(kit() / "bin/rattle", folder / "crates" / crate, "check", *words, *flags, "-o", to)
+
+
+def compile_checked(folder, crate, checked, made, backend="llvm"):
+    """Compiles a crate that is checked into a file of its `out`, in a folder where it's laid over a copy of the kit."""
+    words, copy, at = words_for(folder, crate)[0], folder / "kit", folder / "crates" / crate
     words = [word.replace(f"{kit()}/", f"{copy}/") for word in words]
     (at / "out").mkdir(exist_ok=True)
-    toolchain = ["--toolchain", copy / "toolchain"]
-    run(copy / "bin/rattle", at, "build", *words, "--crate-checked", checked, *toolchain, "--backend", "llvm", "-o", f"{made}.o")
-    system = [copy / "c/libos_c.a", copy / "c/liblibc_c.a"]
-    run(copy / "bin/rattle-link", at, "--target", "x86_64-unknown-linux-gnu", *toolchain, "-o", made, f"{made}.o", *system)
+    words += ["--crate-checked", checked, "--toolchain", copy / "toolchain", "--backend", backend, "-o", f"out/{made}"]
+    run(copy / "bin/rattle", at, "build", *words)
+    return at / "out" / made
+
+
+def link(folder, crate):
+    """Links a program that is compiled in a folder where it's laid over a copy of the kit, as `rt ci` does, and runs it."""
+    copy, at, made = folder / "kit", folder / "crates" / crate, f"out/{crate}"
+    words = ["--target", "x86_64-unknown-linux-gnu", "--toolchain", copy / "toolchain", "-o", made, f"{made}.o"]
+    run(copy / "bin/rattle-link", at, *words, copy / "c/libos_c.a", copy / "c/liblibc_c.a")
     run(at / made, at, "--help")
 
 
@@ -212,6 +231,11 @@ def keep(crate, built):
             if (built / "incremental").is_dir():
                 tar.add(built / "incremental", "incremental")
         os.replace(f"{room}/tar", KEPT / f"{crate}.tar")
+
+
+def checked_of(crate):
+    """The folder in which a library is kept as it was checked."""
+    return KEPT / f"{crate}.checked"
 
 
 def take_kept(crate, built):
@@ -251,18 +275,24 @@ def jobs(proof):
 def build(name, proof):
     """Builds a static library in a copy of it and of all below it, and takes the file that it leaves, and the bitcode of which the compiler made it.
 
-    What an earlier build has checked, and nothing has changed since, isn't checked again.
+    What an earlier build has checked, and nothing has changed since, isn't checked again. Where `rt ci` proves what is below, the library is checked
+    apart from its compilation, so that others can compile it, too.
     """
     table = crates()
     if not table.get(name, (False, []))[0]:
         sys.exit(f"crates.txt has no static library {name}")
     with laid(table, name, "staticlib", proof) as folder:
         crate = folder / "crates" / name
-        take_kept(name, crate / "out")
         OUT.mkdir(exist_ok=True)
-        run(lay_kit(folder / "kit", OUT / f"lib{name}.bc"), crate, "lib", *jobs(proof))
+        rt = lay_kit(folder / "kit", OUT / f"lib{name}.bc")
+        if proof.is_of_ci:
+            check(folder, name, checked_of(name))
+            compile_checked(folder, name, checked_of(name), f"lib{name}.a")
+        else:
+            take_kept(name, crate / "out")
+            run(rt, crate, "lib")
+            keep(name, crate / "out")
         made = pathlib.Path(shutil.copy(crate / f"out/lib{name}.a", OUT))
-        keep(name, crate / "out")
     print(f"{made}: {made.stat().st_size:,} bytes", flush=True)
 
 
