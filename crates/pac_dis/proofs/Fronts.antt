@@ -1,6 +1,6 @@
 -- The instruction at the front of some bytes, found in their first four.
 use Rattle.pac_dis.proofs.Common.{Begins, Instruction, List, None, Some, ap, arith, code, common_steps, decoded_instruction, first_four}
-use Rattle.pac_dis.proofs.Common.{fitting_instruction, front_instruction, length, length-code, length-take, option_and_then, rules, sym}
+use Rattle.pac_dis.proofs.Common.{fitting_instruction, front_instruction, length, length-take, option_and_then, rules, sym}
 use Rattle.pac_dis.proofs.Common.{take, ℕ, ◌<◌, ◌∙◌, ◌≡◌, ◌≤◌}
 
 -- a front of the bytes that is no longer than four is one of the four
@@ -34,6 +34,3 @@ front-cut bytes i is beyond = search rules
 pub front-none : (bytes : List ℕ) → decoded_instruction (first_four bytes) ≡ None → None ≡ front_instruction bytes
 unfolding front_instruction
 front-none bytes is = sym (ap (option_and_then (fitting_instruction (length bytes))) is)
-
--- what `front` cites
-pub ruleset fronts = (front-found, front-cut, front-none, first_four-begins, begins-first_four, begins-within, length-code)

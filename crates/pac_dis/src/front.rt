@@ -37,7 +37,6 @@ fn has_whole(bytes: &[u8], size: u8) -> bool
 }
 
 /// The instruction whose whole code some bytes begin with, and the count of its bytes.
-#[tactic(auto, using(crate::proofs::Fronts::fronts))]
 pub fn front(bytes: &[u8]) -> Option<(Instr, u8)>
     ensures exact { option_map (λ found. found.0) result ≡ front_instruction bytes.now }
     ensures size { IfSome result (λ found. found.1 ≡ length (code found.0)) }
