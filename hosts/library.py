@@ -16,6 +16,8 @@ HERE = pathlib.Path(__file__).resolve().parent
 ROOT = HERE.parent
 OUT = ROOT / "hosts/out"
 KEPT = OUT / "checked"  # what the kit's checks of each crate keep
+# a library's functions begin where 64 divides, and what is jumped to where 32 does: elsewhere the loop of steps takes up to a tenth more
+ALIGNED = ("-mllvm", "-align-all-functions=6", "-mllvm", "-align-all-nofallthru-blocks=5")
 LINE = re.compile(r"(\w+)( +staticlib)?(?: +[\w=]+)*: *(.*)")
 TOLD = 2  # seconds between two lines about what goes on
 AFTER, BESIDE = "--after-ci", "--beside-ci"  # the words that say that `rt ci` has just proved these very files, or is proving them
@@ -149,10 +151,10 @@ def kit_module():
     return importlib.import_module("rtlib")
 
 
-def lay_kit(to, kept):
+def lay_kit(to, kept, flags=()):
     """Lays a copy of the kit into a folder, its files by links, and answers the copy's `rt`.
 
-    The copy proves the same, and hands its C compiler the same program, as LLVM's bitcode, which is kept in a file.
+    The copy proves the same, and hands its C compiler the same program, as LLVM's bitcode, which is kept in a file, with these flags beside its own.
     """
     whole, compiler = kit(), "toolchain/bin/clang"
     for file in [*whole.iterdir(), *(whole / "bin").iterdir(), *(whole / "toolchain").iterdir(), *(whole / "toolchain/bin").iterdir()]:
@@ -162,7 +164,7 @@ def lay_kit(to, kept):
             shutil.copy(file, to / name)  # (they look for the rest beside themselves)
         elif str(name) not in ("bin", "toolchain", "toolchain/bin", compiler):
             (to / name).symlink_to(file)
-    keep = f"[ ! -f module.bc ] || cp module.bc {shlex.quote(str(kept))}"
+    keep = f'[ ! -f module.bc ] || {{ cp module.bc {shlex.quote(str(kept))}; set -- {shlex.join(flags)} "$@"; }}'
     (to / compiler).write_text(f'#!/bin/sh\n{keep}\nexec {shlex.quote(str(whole / compiler))} "$@"\n')
     (to / compiler).chmod(0o755)
     return to / "bin/rt"
@@ -284,7 +286,7 @@ def build(name, proof):
     with laid(table, name, "staticlib", proof) as folder:
         crate = folder / "crates" / name
         OUT.mkdir(exist_ok=True)
-        rt = lay_kit(folder / "kit", OUT / f"lib{name}.bc")
+        rt = lay_kit(folder / "kit", OUT / f"lib{name}.bc", ALIGNED)
         if proof.is_of_ci:
             check(folder, name, checked_of(name))
             compile_checked(folder, name, checked_of(name), f"lib{name}.a")
