@@ -34,6 +34,7 @@ import mixed
 import roms
 import script
 
+ALIGNED = ("-falign-functions=64", "-falign-jumps=32", "-falign-loops=32")  # the board in C lies as hosts/library.py has the library's code lie
 FRAMES = 600  # that are timed
 SHORT = 60  # frames of a program of a few bytes
 SEEDS = 6  # more random programs of each kind
@@ -140,7 +141,7 @@ def run(*words: str | pathlib.Path, environment: dict[str, str] | None = None) -
 def build(room: pathlib.Path, library: pathlib.Path) -> tuple[pathlib.Path, pathlib.Path | None]:
     """Builds the boards in C and, where it can be, plain Rust."""
     peer, plain = room / "peer", room / "plain"
-    run("cc", "-O2", *(ROOT / "bench" / name for name in ("peer.c", "events.c", "z80.c")), library, "-o", peer)
+    run("cc", "-O2", *ALIGNED, *(ROOT / "bench" / name for name in ("peer.c", "events.c", "z80.c")), library, "-o", peer)
     if shutil.which("rustc") is None:
         return peer, None
     run("rustc", "--edition", "2024", "-O", "-o", plain, ROOT / "bench/bench.rs")
