@@ -51,7 +51,7 @@ pub use Rattle.pac_table.specs.declared.patterns.Page.{Page}
 pub use Rattle.pac_table.specs.declared.patterns.Pattern.{Pattern}
 pub use Rattle.pac_table.specs.declared.table.Row.{Row}
 pub use Rattle.std.proofs.Common.{nat_le}
-pub use Rattle.std.proofs.lemmas.Bool.{agree_below, agree_below_at, or_cases}
+pub use Rattle.std.proofs.lemmas.Bool.{agree_below, agree_below_at, cases_order, or_cases}
 pub use Rattle.std.proofs.lemmas.List.Folds.{list_all_at}
 pub use Rattle.std.proofs.lemmas.List.Quantifiers.{position-Some}
 pub use Rattle.std.specs.Prelude.{None, Option, Some, filter, position}
