@@ -54,4 +54,4 @@ pub use Rattle.std.proofs.Common.{nat_le}
 pub use Rattle.std.proofs.lemmas.Bool.{agree_below, agree_below_at, cases_order, or_cases}
 pub use Rattle.std.proofs.lemmas.List.Folds.{list_all_at}
 pub use Rattle.std.proofs.lemmas.List.Quantifiers.{position-Some}
-pub use Rattle.std.specs.Prelude.{None, Option, Some, filter, position}
+pub use Rattle.std.specs.Prelude.{None, Option, Some, position}
