@@ -70,13 +70,13 @@ pub use Rattle.pac_picture.proofs.Composed.{length-line_of, line-below, picture-
 pub use Rattle.pac_state.proofs.Files.{accepts}
 pub use Rattle.pac_state.proofs.Framing.{block-again, is-block}
 pub use Rattle.pac_state.proofs.Fronts.{file-size, front-changed, front-of-zeros, lines-of-zeros}
-pub use Rattle.pac_state.proofs.Taken.{range-of, size-of}
+pub use Rattle.pac_state.proofs.Taken.{size-of}
 pub use Rattle.pac_state.proofs.Whole.{part-add}
 pub use Rattle.pac_state.proofs.Written.{length-front}
 pub use Rattle.pac_state.specs.declared.fault.LoadFault.{LoadFault}
 pub use Rattle.std.proofs.Common.{reverse, take_all}
 pub use Rattle.std.proofs.Math.Seq.{drop-cons}
 pub use Rattle.std.proofs.lemmas.List.{drop-set-lt, take_more_set}
-pub use Rattle.std.proofs.lemmas.Simd.{length-swz_l, pick_l_whole, take_more_put_chunk}
+pub use Rattle.std.proofs.lemmas.Simd.{length-swz_l, pick_l_whole}
 pub use Rattle.std.specs.Int.{to_le_bytes}
 pub use Rattle.std.specs.Int.Bits.{and_zero_r, bit_or, or_zero_l}

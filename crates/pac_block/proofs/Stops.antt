@@ -49,12 +49,7 @@ module _ {Board : Type 0} (next : Moment Board → Next Board) (timely : (now : 
 
 -- ---- what is asked then
 
--- no more than before
-pub left-within : (stop : Option Stop) (state : BoardState) → StopsEarly stop state
-    → asked_left stop state.asked state.now.time ≤ state.asked
-left-within stop state open_yet = search rules
-
--- so it is a state that a board can have
+-- it is a state that a board can have
 pub left-is-state : (stop : Option Stop) (state : BoardState) → StopsEarly stop state → IsState state → IsState (state_left stop state)
 left-is-state stop state early is = search rules
 

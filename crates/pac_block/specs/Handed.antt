@@ -3,11 +3,11 @@ use Rattle.std.specs.Prelude.{◌≡◌, ◌≢◌, ◌≤◌, ◌<◌, ◌+◌,
 use Rattle.std.specs.Prelude.{Option, None, Some, Result, Ok, Err}
 use Rattle.pac_board.specs.BoardFields.{Fields}
 use Rattle.pac_board.specs.Fields.{state_of, AreBoardFields}
-use Rattle.pac_board.specs.FieldsProofs.{AreFieldsButLines}
 use Rattle.pac_board.specs.StateLaws.{restored_board}
 use Rattle.pac_board.specs.State.{BoardState, BoardValue, most_asked, time_of}
 use Rattle.pac_board.specs.Stop.{Stop}
 use Rattle.pac_state.specs.Block.{IsBlock}
+use Rattle.pac_state.specs.Framed.{TellsFields, TellsFieldsButLines}
 use Rattle.pac_state.specs.Fronts.{IsFrontOf}
 use Rattle.pac_state.specs.Reading.{state_in}
 use Rattle.pac_block.specs.declared.codes.HostFault.{HostFault}
@@ -21,22 +21,13 @@ HaveLength roms (Err fault) = (length roms ≢ roms_size) × (fault ≡ WrongLen
 
 -- the fields of this block, if it is the block of a state
 abbrev pub OpensBlock : List ℕ → Result Fields HostFault → Type 0
-OpensBlock block (Ok fields) = record {
-  is_block : IsBlock block;
-  state : state_of fields ≡ state_in block;
-  in_range : AreBoardFields fields;
-}
-OpensBlock block (Err fault) = (IsBlock block → ⊥) × (fault ≡ NoBoard)
+OpensBlock block (Ok fields) = TellsFields IsBlock block (Some fields)
+OpensBlock block (Err fault) = TellsFields IsBlock block None × (fault ≡ NoBoard)
 
 -- the same, but for the lines: it is such a block where they are a picture's
 abbrev pub OpensBlockButLines : List ℕ → Result Fields HostFault → Type 0
-OpensBlockButLines block (Ok fields) = record {
-  is_block : AreBoardFields fields → IsBlock block;
-  state : state_of fields ≡ state_in block;
-  in_range : AreFieldsButLines fields;
-  all : IsBlock block → AreBoardFields fields;
-}
-OpensBlockButLines block (Err fault) = (IsBlock block → ⊥) × (fault ≡ NoBoard)
+OpensBlockButLines block (Ok fields) = TellsFieldsButLines IsBlock block (Some fields)
+OpensBlockButLines block (Err fault) = TellsFieldsButLines IsBlock block None × (fault ≡ NoBoard)
 
 -- a board becomes that of these fields, where their lines are a picture's
 abbrev pub TakesFields : Fields → BoardValue → Result (Unit {0}) HostFault → BoardValue → Type 0

@@ -1,7 +1,8 @@
 //! The block in which a host keeps its board: read, and written.
 
 ghost use Rattle.std.specs.Prelude.{◌≡◌, Ok, Err, replicate};
-ghost use Rattle.pac_board.specs.FieldsProofs.{AreFieldsButLines};
+ghost use Rattle.pac_board.specs.Fields.{state_of};
+ghost use Rattle.pac_board.specs.State.{IsInRangeButLines};
 ghost use Rattle.pac_block.specs.Handed.{StopsEarly, OpensBlock, OpensBlockButLines, TakesFields};
 ghost use Rattle.pac_block.specs.Host.{IsBlockOf, state_left};
 ghost use Rattle.pac_state.specs.Saved.{file_size};
@@ -43,7 +44,7 @@ pub(crate) fn open_but_lines(block: &PacBoard) -> Result<Fields<'_>, HostFault>
 
 /// Puts fields into a board, if their lines are a picture's.
 pub(crate) fn take(machine: &mut Board, fields: &Fields) -> Result<(), HostFault>
-    requires { AreFieldsButLines fields.now }
+    requires { IsInRangeButLines (state_of fields.now) }
     ensures { TakesFields fields.now machine.old result machine.new }
 {
     if machine.take_fields(fields) {

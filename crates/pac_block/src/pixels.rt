@@ -9,6 +9,7 @@ ghost use Rattle.pac_block.specs.Host as host;
 ghost use Rattle.pac_block.specs.Woven.{coloured, woven};
 
 use pac_colour::rgb;
+use pac_picture::put_vector;
 use std::marker::Model;
 use std::simd::prelude::*;
 
@@ -94,16 +95,6 @@ fn weave(red: u8x16, green: u8x16, blue: u8x16) -> (u8x16, u8x16, u8x16, u8x16)
     let (first, second) = red_blue.interleave(green_opaque);
     let (third, fourth) = more_red_blue.interleave(more_green_opaque);
     (first, second, third, fourth)
-}
-
-/// Writes sixteen bytes at a place.
-#[inline(always)]
-fn put_vector(rgba: &mut [u8], at: usize, bytes: u8x16)
-    requires { at + 16 ≤ length rgba.old }
-    ensures size { length rgba.new ≡ length rgba.old }
-    ensures text { take (at + 16) rgba.new ≡ take at rgba.old ++ bytes }
-{
-    bytes.copy_to_slice(&mut rgba[at..]);
 }
 
 /// Writes the pixels of sixteen colour numbers at a place.

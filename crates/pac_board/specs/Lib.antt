@@ -52,7 +52,6 @@ pub use Rattle.pac_board_model.specs.Trace
 pub use Rattle.pac_board_model.specs.Walk
 pub use Rattle.pac_machine.specs.Bursts
 pub use Rattle.pac_machine.specs.Fields
-pub use Rattle.pac_machine.specs.FieldsProofs
 pub use Rattle.pac_machine.specs.Trails
 pub use Rattle.pac_machine.specs.Stops
 pub use Rattle.pac_machine.specs.StopsProofs

@@ -2,9 +2,9 @@
 
 ghost use Rattle.std.specs.Prelude.{◌≡◌, ◌↔◌, IfOk, IfErr, true};
 ghost use Rattle.pac_board.specs.State.{passed_lines, recomposed_view, with_view};
+ghost use Rattle.pac_board.specs.State.{IsInRangeButLines};
 ghost use Rattle.pac_board.specs.StateLaws.{restored_board};
 ghost use Rattle.pac_machine.specs.Fields.{state_of, AreBoardFields};
-ghost use Rattle.pac_machine.specs.FieldsProofs.{AreFieldsButLines};
 
 use crate::board::Board;
 use crate::fault::InitRefused;
@@ -40,7 +40,7 @@ impl Board {
     /// Becomes the board that has these fields, in place, if their lines are a picture's, which it answers: they are looked at as they are
     /// copied. Else nothing is told of what it becomes. Its ROM set and the count of its steps stay.
     pub fn take_fields(&mut self, fields: &Fields) -> bool
-        requires { AreFieldsButLines fields.now }
+        requires { IsInRangeButLines (state_of fields.now) }
         ensures taken { (result ≡ true) ↔ AreBoardFields fields.now }
         ensures board { result ≡ true → self.new ≡ restored_board self.old (state_of fields.now) }
     {

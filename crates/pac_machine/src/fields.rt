@@ -4,8 +4,9 @@ ghost use Rattle.std.specs.Prelude.{◌≡◌, ◌≤◌, ◌<◌, ◌↔◌, tr
 ghost use Rattle.pac_wave.specs.Wave.{Fit20Bits};
 ghost use Rattle.pac_wave.specs.WaveLaws.{accumulators_of_list};
 ghost use Rattle.pac_machine.specs.Standing.{most_asked, passed_lines, recomposed_view};
+ghost use Rattle.pac_machine.specs.Standing.{IsInRangeButLines};
 ghost use Rattle.pac_machine.specs.Fields.{moment_of, state_of, AreBoardFields};
-ghost use Rattle.pac_machine.specs.FieldsProofs.{AreFieldsButLines, blackened};
+ghost use Rattle.pac_machine.specs.FieldsProofs.{blackened};
 
 use crate::due::Due;
 use crate::machine::Machine;
@@ -52,7 +53,7 @@ pub const MOST_ASKED: u64 = 1 << 50;
 impl Fields<'_> {
     /// Whether each of these fields is in its range but, maybe, the lines.
     pub fn are_but_lines_in_range(&self) -> bool
-        ensures { (result ≡ true) ↔ AreFieldsButLines self.now }
+        ensures { (result ≡ true) ↔ IsInRangeButLines (state_of self.now) }
     {
         self.memory.are_in_range()
             && self.memory.count < 16
@@ -82,7 +83,7 @@ impl Machine {
     /// Becomes the machine of these fields, in place, if their lines are a picture's, which it answers: they are looked at as they are copied.
     /// Else its picture is black. Its ROM set stays.
     pub fn take_fields(&mut self, fields: &Fields) -> bool
-        requires { AreFieldsButLines fields.now }
+        requires { IsInRangeButLines (state_of fields.now) }
         ensures taken { (result ≡ true) ↔ AreBoardFields fields.now }
         ensures machine { self.new ≡ (if result
             then record { set = self.old.set; now = moment_of fields.now }

@@ -29,7 +29,7 @@ pub use Rattle.std.proofs.lemmas.Int.{to_z-of_z}
 pub use Rattle.std.proofs.lemmas.List.{drop-drop, drop-take, ext_get_or, flat_map_more, replicate-append-replicate, replicate_more}
 pub use Rattle.std.proofs.lemmas.List.{set_split, take-append-drop, take-take, take_all, take_at, take_more}
 pub use Rattle.std.proofs.lemmas.Nat.Bits.{bit_at_xor, same_from_bits}
-pub use Rattle.std.proofs.lemmas.Simd.{length-swz_l, pick_l_whole, take_more_put_chunk}
+pub use Rattle.std.proofs.lemmas.Simd.{length-swz_l, pick_l_whole}
 pub use Rattle.std.proofs.lemmas.Slice.{take-put_mid}
 pub use Rattle.std.proofs.lemmas.Slice.Eq.{slice_eq-Decides}
 pub use Rattle.std.specs.Int.{from_le_bytes, to_le_bytes, w64}

@@ -8,6 +8,7 @@ ghost use Rattle.pac_colour.specs.Colours.{numbers as colour_numbers};
 ghost use Rattle.pac_media.specs.Images.{palette_colour};
 ghost use Rattle.pac_media.specs.Drawn.{ArePlanes, rgb_pixels};
 
+use pac_picture::put_vector;
 use std::alloc::{AllocError, Global};
 use std::marker::Model;
 use std::simd::prelude::*;
@@ -100,16 +101,6 @@ fn weave(red: u8x16, green: u8x16, blue: u8x16) -> (u8x16, u8x16, u8x16)
         middle.shuffle(blue, SECOND),
         right.shuffle(blue, THIRD),
     )
-}
-
-/// Writes sixteen bytes at a place.
-#[inline(always)]
-fn put_vector(pixels: &mut [u8], at: usize, bytes: u8x16)
-    requires { at + 16 ≤ length pixels.old }
-    ensures size { length pixels.new ≡ length pixels.old }
-    ensures text { take (at + 16) pixels.new ≡ take at pixels.old ++ bytes }
-{
-    bytes.copy_to_slice(&mut pixels[at..]);
 }
 
 /// Copies sixteen bytes as a vector: `copy_from_slice` would first ask whether the two places overlap.

@@ -18,7 +18,7 @@ mod strip;
 pub use graphics::Graphics;
 pub use lines::{Lines, compose_alone};
 pub use picture::Picture;
-pub use raw::{RawLines, is_picture, raw_row};
+pub use raw::{RawLines, is_picture, put_vector, raw_row};
 pub use screen::Screen;
 pub use shadow::Shadow;
 pub use size::{COLUMNS, HEIGHT, ROWS, RowBytes, WIDTH};

@@ -46,6 +46,16 @@ fn bits(numbers: &[u8]) -> u8
     bits
 }
 
+/// Writes sixteen bytes at a place.
+#[inline(always)]
+pub fn put_vector(to: &mut [u8], at: usize, bytes: u8x16)
+    requires { at + 16 ≤ length to.old }
+    ensures size { length to.new ≡ length to.old }
+    ensures text { take (at + 16) to.new ≡ take at to.old ++ bytes }
+{
+    bytes.copy_to_slice(&mut to[at..]);
+}
+
 /// Copies the sixteen numbers at a place to the same place, and tells them.
 #[inline(always)]
 fn copy_sixteen(from: &[u8], to: &mut [u8], at: usize) -> u8x16
@@ -56,7 +66,7 @@ fn copy_sixteen(from: &[u8], to: &mut [u8], at: usize) -> u8x16
     ensures text { take (at + 16) to.new ≡ take at to.old ++ take 16 (drop at from.now) }
 {
     let numbers = u8x16::from_slice(&from[at..]);
-    numbers.copy_to_slice(&mut to[at..]);
+    put_vector(to, at, numbers);
     numbers
 }
 

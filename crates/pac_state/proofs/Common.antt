@@ -1,6 +1,6 @@
 -- The words that proofs here, and those of crates above, import of definitions, of std and of the crates below.
 
-pub use Rattle.pac_board.specs.FieldsProofs.{AreFieldsButLines}
+pub use Rattle.pac_board.specs.State.{IsStateInRange}
 pub use Rattle.pac_board.proofs.Common.{AreBoardFields, Bits, BoardState, BoardValue, Bool, Err, Fields, InterruptMode, IsPicture}
 pub use Rattle.pac_board.proofs.Common.{IsWellFormed, List, None, Ok, Option, Parts, Regs, Result, Some, View, [], ap, append_assoc, arith}
 pub use Rattle.pac_board.proofs.Common.{binary_digit, common_steps, drop, drop-append_seam, err_from_is_err_and, false, get_or, inr, length}
@@ -24,15 +24,14 @@ pub use Rattle.pac_out.specs.declared.counted.Counted.{Counted}
 pub use Rattle.pac_roms_manifest.specs.Sets.{digest_of}
 pub use Rattle.pac_state.specs.Block.{IsBlock, no_digest}
 unfoldable pub use Rattle.pac_state.specs.Block.{block_text}
-pub use Rattle.pac_state.specs.BlockProofs.{ReadsBlock, ReadsBlockButLines}
 pub use Rattle.pac_state.specs.Files.{AreWords, FitsSample, IsFile, IsState, board_of_file}
 pub use Rattle.pac_state.specs.FilesLaws.{AcceptsFile, LoadsAgain}
 pub use Rattle.pac_state.specs.FilesProofs.{Accepts}
-pub use Rattle.pac_state.specs.Framed.{IsFramed, ReadsFields, ReadsFieldsButLines}
+pub use Rattle.pac_state.specs.Framed.{IsFramed, TellsFields, TellsFieldsButLines}
 pub use Rattle.pac_state.specs.Fronts.{IsFrontOf}
 pub use Rattle.pac_state.specs.Reading.{bytes_at_place, controls_in, due_of, due_sample, lines_of, memory_of, mode_of, picture_in}
 pub use Rattle.pac_state.specs.Reading.{processor_in, regs_of, saved_word_at, state_in}
-pub use Rattle.pac_state.specs.Saved.{AreWritten, IsStateInRange, IsText, Misses, RefusesFile, begins_with_magic, body_size, file_size}
+pub use Rattle.pac_state.specs.Saved.{AreWritten, IsText, Misses, RefusesFile, begins_with_magic, body_size, file_size}
 pub use Rattle.pac_state.specs.Saved.{is_known, is_of_another_version, is_of_set, is_sealed, upgraded_board, version_in}
 unfoldable pub use Rattle.pac_state.specs.Saved.{load_fault}
 pub use Rattle.pac_state.specs.SavedLaws.{ReadsFile, loaded_board}

@@ -1,6 +1,6 @@
 -- Blocks of states: what stands in them, and which bytes are blocks.
 use Rattle.pac_state.proofs.Common.{BoardState, Fields, IsBlock, IsFramed, IsPicture, IsState, IsStateInRange, IsText, IsWellFormed, List}
-use Rattle.pac_state.proofs.Common.{None, Option, ReadsBlock, ReadsBlockButLines, ReadsFields, ReadsFieldsButLines, Some, [], ap}
+use Rattle.pac_state.proofs.Common.{None, Option, Some, TellsFields, TellsFieldsButLines, [], ap}
 use Rattle.pac_state.proofs.Common.{append_assoc, arith, block_text, body, bytes_at_place, drop, file_front, file_size, flat_map}
 use Rattle.pac_state.proofs.Common.{flat_map-split, from_le_bytes, from_le_bytes-to_le_bytes_2, get_or, joined_pieces, length}
 use Rattle.pac_state.proofs.Common.{length-append, no_digest, refl, state_in, subst, sym, take, take_all, version_in, w16}
@@ -81,10 +81,10 @@ block-of bytes fits size framed text =
     }
 
 pub reads-block : (bytes : List ℕ) → ((i : ℕ) → get_or bytes i 0 < 256) → length bytes ≡ file_size → IsFramed bytes
-    → (result : Option Fields) → ReadsFields bytes result → ReadsBlock bytes result
+    → (result : Option Fields) → TellsFields IsText bytes result → TellsFields IsBlock bytes result
 unfolding AreBytes
 reads-block bytes fits size framed (Some fields) reads = record {
-  block = block-of bytes fits size framed reads.text;
+  holds = block-of bytes fits size framed reads.holds;
   state = reads.state;
   in_range = reads.in_range;
 }
@@ -92,13 +92,15 @@ reads-block bytes fits size framed None reads = λ (block : IsBlock bytes). read
 
 -- the same, where the lines may be none of a picture
 pub reads-block-but-lines : (bytes : List ℕ) → ((i : ℕ) → get_or bytes i 0 < 256) → length bytes ≡ file_size → IsFramed bytes
-    → (result : Option Fields) → ReadsFieldsButLines bytes result → ReadsBlockButLines bytes result
+    → (result : Option Fields) → TellsFieldsButLines IsText bytes result → TellsFieldsButLines IsBlock bytes result
 unfolding AreBytes
 reads-block-but-lines bytes fits size framed (Some fields) reads = record {
-  block = λ range. block-of bytes fits size framed (reads.text range);
+  holds = (
+    λ range. block-of bytes fits size framed (reads.holds.0 range),
+    λ block. reads.holds.1 (text-of-block bytes size block),
+  );
   state = reads.state;
   in_range = reads.in_range;
-  all = λ block. reads.all (text-of-block bytes size block);
 }
 reads-block-but-lines bytes fits size framed None reads = λ (block : IsBlock bytes). reads (text-of-block bytes size block)
 

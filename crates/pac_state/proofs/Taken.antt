@@ -1,7 +1,6 @@
 -- What is known of a file that was looked at.
-use Rattle.pac_state.proofs.Common.{AreBoardFields, AreFieldsButLines, BoardState, Bool, Fields, IsStateInRange, List, LoadFault, None}
-use Rattle.pac_state.proofs.Common.{Option, Some, arith, eqb-true, file_size, if◌then◌else◌, length, load_fault, not, rules, state_of}
-use Rattle.pac_state.proofs.Common.{true, ℕ, ◌≡◌}
+use Rattle.pac_state.proofs.Common.{Bool, List, LoadFault, None, Option, Some, arith, eqb-true, file_size, if◌then◌else◌, length}
+use Rattle.pac_state.proofs.Common.{load_fault, not, rules, true, ℕ, ◌≡◌}
 
 -- the rest of a search that finds nothing
 pub below : (found : Bool) (fault : LoadFault) (rest : Option LoadFault) → (if found then Some fault else rest) ≡ None → rest ≡ None
@@ -14,14 +13,3 @@ tested holds fault rest none = search rules
 pub size-of : (digest bytes : List ℕ) → load_fault digest bytes ≡ None → length bytes ≡ file_size
 unfolding load_fault
 size-of digest bytes none = grind (arith, below, eqb-true, tested)
-
--- fields in their ranges and a state in its ranges
-pub in-range : (fields : Fields) (state : BoardState) → state_of fields ≡ state → AreBoardFields fields → IsStateInRange state
-in-range fields state same range = search rules
-
-pub range-of : (fields : Fields) (state : BoardState) → state_of fields ≡ state → IsStateInRange state → AreBoardFields fields
-range-of fields state same range = search rules
-
--- fields whose lines are a picture's
-pub but-lines : (fields : Fields) → AreBoardFields fields → AreFieldsButLines fields
-but-lines fields range = search rules

@@ -1,10 +1,9 @@
 -- Believed: the block in which a host keeps a board's state (this profile): the text of a state file of the version that is
 -- written, with 20 zeros in place of each of its digests. The ROM set is handed in beside it.
 use Rattle.std.specs.Prelude.{◌≡◌, ℕ, List, ◌++◌, replicate}
-use Rattle.pac_board.specs.State.{BoardState}
+use Rattle.pac_board.specs.State.{BoardState, IsStateInRange}
 use Rattle.pac_state.specs.Text.{body, written_version}
 use Rattle.pac_state.specs.Reading.{state_in}
-use Rattle.pac_state.specs.Saved.{IsStateInRange}
 
 -- what stands where a file has a digest
 abbrev pub no_digest : List ℕ

@@ -5,9 +5,9 @@ use Rattle.std.specs.Int.{w16}
 use Rattle.pac_board.specs.Regs.{Regs}
 use Rattle.pac_board.specs.MemoryView.{IsWellFormed}
 use Rattle.pac_board.specs.RomParts.{Parts}
-use Rattle.pac_board.specs.State.{BoardState, BoardValue}
+use Rattle.pac_board.specs.State.{BoardState, BoardValue, IsStateInRange}
 use Rattle.pac_state.specs.Text.{save_text}
-use Rattle.pac_state.specs.Saved.{IsStateInRange, is_known, upgraded_board}
+use Rattle.pac_state.specs.Saved.{is_known, upgraded_board}
 
 -- registers of two bytes
 pub record AreWords (regs : Regs) : Type 0 where

@@ -1,11 +1,11 @@
 -- For proofs: what a block has around the fields of its state, and what is read out of a file of the right size.
-use Rattle.std.specs.Prelude.{◌≡◌, ℕ, List, Option, Some, None}
+use Rattle.std.specs.Prelude.{◌≡◌, ◌↔◌, ℕ, List, Option, Some, None}
 use Rattle.pac_board.specs.BoardFields.{Fields}
 use Rattle.pac_board.specs.Fields.{state_of, AreBoardFields}
-use Rattle.pac_board.specs.FieldsProofs.{AreFieldsButLines}
+use Rattle.pac_board.specs.State.{IsInRangeButLines}
 use Rattle.pac_state.specs.Text.{magic, written_version}
 use Rattle.pac_state.specs.Reading.{bytes_at_place, state_in}
-use Rattle.pac_state.specs.Saved.{version_in, IsText}
+use Rattle.pac_state.specs.Saved.{version_in}
 use Rattle.pac_state.specs.Block.{no_digest}
 
 -- zeros in place of both digests
@@ -19,21 +19,20 @@ pub record IsFramed (bytes : List ℕ) : Type 0 where
   pub version : version_in bytes ≡ written_version
   pub digests : HasNoDigests bytes
 
--- the fields that stand in bytes as they are written, where all but the lines are a state's: they are one where those are a picture's
-abbrev pub ReadsFieldsButLines : List ℕ → Option Fields → Type 0
-ReadsFieldsButLines bytes (Some fields) = record {
-  text : AreBoardFields fields → IsText bytes;
-  state : state_of fields ≡ state_in bytes;
-  in_range : AreFieldsButLines fields;
-  all : IsText bytes → AreBoardFields fields;
-}
-ReadsFieldsButLines bytes None = IsText bytes → ⊥
-
--- the fields that stand in bytes, where they are a state's and stand there as they are written
-abbrev pub ReadsFields : List ℕ → Option Fields → Type 0
-ReadsFields bytes (Some fields) = record {
-  text : IsText bytes;
+-- Fields are told of exactly those bytes that are of a kind, a file's text or a block: they are those of the state that stands there.
+abbrev pub TellsFields : (List ℕ → Type 0) → List ℕ → Option Fields → Type 0
+TellsFields Is bytes (Some fields) = record {
+  holds : Is bytes;
   state : state_of fields ≡ state_in bytes;
   in_range : AreBoardFields fields;
 }
-ReadsFields bytes None = IsText bytes → ⊥
+TellsFields Is bytes None = Is bytes → ⊥
+
+-- The same, but for the lines: the bytes are of that kind where these are a picture's.
+abbrev pub TellsFieldsButLines : (List ℕ → Type 0) → List ℕ → Option Fields → Type 0
+TellsFieldsButLines Is bytes (Some fields) = record {
+  holds : AreBoardFields fields ↔ Is bytes;
+  state : state_of fields ≡ state_in bytes;
+  in_range : IsInRangeButLines (state_of fields);
+}
+TellsFieldsButLines Is bytes None = Is bytes → ⊥

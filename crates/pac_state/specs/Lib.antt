@@ -1,5 +1,4 @@
 pub mod Block
-pub mod BlockProofs
 pub mod BlockLaws
 pub mod Codes
 pub mod Files

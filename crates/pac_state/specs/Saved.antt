@@ -1,15 +1,10 @@
 -- Believed: which files are taken, for which board, and what is wrong with the others.
-use Rattle.std.specs.Prelude.{◌≡◌, ℕ, ◌*◌, ◌<◌, ◌≤◌, ◌==◌, min, nat_le, Bool, not, ◌&&◌, ◌||◌, if◌then◌else◌, ⊤, ◌⊎◌}
+use Rattle.std.specs.Prelude.{◌≡◌, ℕ, ◌==◌, min, nat_le, Bool, not, ◌&&◌, ◌||◌, if◌then◌else◌, ⊤, ◌⊎◌}
 use Rattle.std.specs.Prelude.{List, length, take, drop, bytes_eq, Option, Some, None}
 use Rattle.sha1.specs.Sha1.{sha1}
-use Rattle.pac_board.specs.Latched.{watchdog_limit}
-use Rattle.pac_board.specs.MemoryView.{HoldWhatTheyCan}
-use Rattle.pac_board.specs.PictureState.{IsPicture}
 use Rattle.pac_board.specs.RomParts.{Parts}
 use Rattle.pac_roms_manifest.specs.Sets.{digest_of}
-use Rattle.pac_board.specs.Instructions.{least_ticks}
-use Rattle.pac_board.specs.Wave.{Fit20Bits}
-use Rattle.pac_board.specs.State.{BoardState, BoardValue, latest_end, most_asked, passed_lines, recomposed_view, with_view}
+use Rattle.pac_board.specs.State.{BoardState, BoardValue, IsStateInRange, passed_lines, recomposed_view, with_view}
 use Rattle.pac_state.specs.declared.fault.LoadFault.{LoadFault}
 use Rattle.pac_state.specs.declared.fault.LoadFault.TheVariants.{NoState, OtherVersion, Size, OutOfRange, Damaged, OtherSet, NoMemory}
 use Rattle.pac_state.specs.Text.{magic, processor_bytes, control_bytes, due_bytes}
@@ -60,18 +55,6 @@ load_fault digest bytes =
     else None
 
 -- ---- the state
-
--- Fields that a board can have: registers of the wave generator hold what they can, the watchdog's count is below the one at
--- which it resets the board, accumulators have 20 bits, time, steps and what was asked are in their limits, and the picture
--- has colour numbers.
-pub record IsStateInRange (state : BoardState) : Type 0 where
-  pub registers : HoldWhatTheyCan state.now.board.memory.registers
-  pub count : state.now.board.memory.latched.count < watchdog_limit
-  pub accumulators : Fit20Bits state.now.board.accumulators
-  pub steps : least_ticks * state.now.steps ≤ state.now.time
-  pub time : state.now.time ≤ latest_end
-  pub asked : state.asked ≤ most_asked
-  pub picture : IsPicture state.now.board.lines
 
 -- Of the pieces of a file these three could be written in more than one way for one state, by bits and numbers that have no
 -- meaning. They stand as they are written for this state.

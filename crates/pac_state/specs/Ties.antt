@@ -1,21 +1,10 @@
--- Law: laws that tie two accounts of one thing, each proved on a public function of the crate.
+-- Law: two accounts of what is taken as a file, tied on a public function of the crate.
 use Rattle.std.specs.Prelude.{◌<◌, ℕ, List, get_or, Ok, Err}
-use Rattle.pac_board.specs.BoardFields.{Fields}
-use Rattle.pac_board.specs.Fields.{state_of, AreBoardFields}
 use Rattle.pac_board.specs.RomParts.{Parts}
 use Rattle.pac_board.specs.State.{BoardValue}
 use Rattle.pac_state.specs.declared.fault.LoadFault.{LoadFault}
 use Rattle.pac_state.specs.FilesLaws.{AcceptsFile}
-use Rattle.pac_state.specs.Saved.{IsStateInRange}
 use Rattle.pac_state.specs.SavedLaws.{ReadsFile}
-
--- Fields are a board's exactly where the state that they tell is in its ranges.
-pub record HaveOneRange (fields : Fields) : Type 0 where
-  pub in_range : AreBoardFields fields → IsStateInRange (state_of fields)
-  pub of_board : IsStateInRange (state_of fields) → AreBoardFields fields
-
-abbrev pub RangesAreOne : Type 0
-RangesAreOne = (fields : Fields) → HaveOneRange fields
 
 -- What is read of bytes, said by the fields that stand in them, is what is said by the files that there are: the same boards come of it,
 -- and where there is a fault they are no file.

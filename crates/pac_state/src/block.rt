@@ -6,7 +6,6 @@ ghost use Rattle.pac_board.specs.MemoryView.{IsWellFormed};
 ghost use Rattle.pac_board.specs.PictureState.{IsPicture};
 ghost use Rattle.pac_out.specs.Pieces.{joined_pieces};
 ghost use Rattle.pac_state.specs.Block as blocks;
-ghost use Rattle.pac_state.specs.BlockProofs as block_proofs;
 ghost use Rattle.pac_state.specs.Framed as framed;
 ghost use Rattle.pac_state.specs.Fronts.{IsFrontOf, front_size};
 ghost use Rattle.pac_state.specs.Reading.{state_in};
@@ -40,7 +39,7 @@ fn is_framed(block: &[u8]) -> bool
 
 /// The fields in a block, if it is the block of a state that a board can have.
 pub fn read_block(block: &[u8; FILE_SIZE]) -> Option<Fields<'_>>
-    ensures { block_proofs.ReadsBlock block.now result }
+    ensures { framed.TellsFields blocks.IsBlock block.now result }
 {
     if is_framed(block) {
         fields_in(block)
@@ -52,7 +51,7 @@ pub fn read_block(block: &[u8; FILE_SIZE]) -> Option<Fields<'_>>
 /// The fields in a block, if all but the lines, which may be none of a picture, are those of the block of a state that a board can have: for
 /// whoever copies the lines, and looks at them meanwhile.
 pub fn read_block_but_lines(block: &[u8; FILE_SIZE]) -> Option<Fields<'_>>
-    ensures { block_proofs.ReadsBlockButLines block.now result }
+    ensures { framed.TellsFieldsButLines blocks.IsBlock block.now result }
 {
     if is_framed(block) {
         fields_but_lines_in(block)

@@ -10,7 +10,7 @@ ghost use Rattle.pac_state.specs.FilesLaws.{LoadsAgain, StatesAreReadBack, Texts
 ghost use Rattle.pac_state.specs.Saved as saved;
 ghost use Rattle.pac_state.specs.Saves.{Saves};
 ghost use Rattle.pac_state.specs.Text as text;
-ghost use Rattle.pac_state.specs.Ties.{RangesAreOne, ReadingIsAccepting};
+ghost use Rattle.pac_state.specs.Ties.{ReadingIsAccepting};
 
 use crate::fault::LoadRefused;
 use crate::loading::load;
@@ -86,11 +86,6 @@ pub fn loaded_again(
     boards_have_states(board);
     load(alloc, bytes, set)
 }
-
-/// Fields are a board's where their state is in its ranges.
-pub fn ranges_are_one()
-    ensures { RangesAreOne }
-{}
 
 /// What is read of bytes is what there is as a file.
 pub fn reading_is_accepting()

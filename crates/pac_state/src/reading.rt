@@ -1,12 +1,12 @@
 //! The fields of a state in the bytes of a file.
 
 ghost use Rattle.std.specs.Prelude.{◌≡◌, ◌↔◌, ◌<◌, ◌≤◌, ◌*◌, ◌+◌, true, length, slice_index};
-ghost use Rattle.pac_board.specs.Fields.{state_of, AreBoardFields};
-ghost use Rattle.pac_board.specs.FieldsProofs.{AreFieldsButLines};
+ghost use Rattle.pac_board.specs.Fields.{state_of};
 ghost use Rattle.pac_board.specs.Inputs as inputs;
 ghost use Rattle.pac_board.specs.MemoryFields.{view_of_fields};
+ghost use Rattle.pac_board.specs.State.{IsInRangeButLines};
 ghost use Rattle.pac_board.specs.Tiles as tile;
-ghost use Rattle.pac_state.specs.Framed.{ReadsFields, ReadsFieldsButLines};
+ghost use Rattle.pac_state.specs.Framed.{TellsFields, TellsFieldsButLines};
 ghost use Rattle.pac_state.specs.Reading as read;
 ghost use Rattle.pac_state.specs.Saved as saved;
 ghost use Rattle.pac_state.specs.Text as text;
@@ -174,7 +174,7 @@ fn are_written(fields: &Fields, bytes: &[u8]) -> bool
 fn are_but_lines_taken(fields: &Fields, bytes: &[u8]) -> bool
     requires { length bytes.now ≡ saved.file_size }
     ensures { (result ≡ true)
-        ↔ (AreFieldsButLines fields.now × saved.AreWritten (state_of fields.now) bytes.now) }
+        ↔ (IsInRangeButLines (state_of fields.now) × saved.AreWritten (state_of fields.now) bytes.now) }
 {
     fields.are_but_lines_in_range() && are_written(fields, bytes)
 }
@@ -183,7 +183,7 @@ fn are_but_lines_taken(fields: &Fields, bytes: &[u8]) -> bool
 /// picture, are a state's.
 pub(crate) fn fields_but_lines_in(bytes: &[u8]) -> Option<Fields<'_>>
     requires { length bytes.now ≡ saved.file_size }
-    ensures { ReadsFieldsButLines bytes.now result }
+    ensures { TellsFieldsButLines saved.IsText bytes.now result }
 {
     let fields = fields(bytes);
     if are_but_lines_taken(&fields, bytes) {
@@ -196,7 +196,7 @@ pub(crate) fn fields_but_lines_in(bytes: &[u8]) -> Option<Fields<'_>>
 /// The fields that stand in bytes of a file's size, if they are a state's and stand there as they are written.
 pub(crate) fn fields_in(bytes: &[u8]) -> Option<Fields<'_>>
     requires { length bytes.now ≡ saved.file_size }
-    ensures { ReadsFields bytes.now result }
+    ensures { TellsFields saved.IsText bytes.now result }
 {
     match fields_but_lines_in(bytes) {
         Some(fields) => {

@@ -12,7 +12,7 @@ pub returns-in_err-take : goal.returns-in_err-take
 returns-in_err-take c =
     let none = c.in_err-take.ensures in
     let told = err_from_is_err_and c.from_residual-in_err-take.result c.from_residual-in_err-take.ensures.1 in
-    let no : IsBlock c.args.block.now.bytes → ⊥ = λ block. none.0 (c.in_ok-fields.ensures.all block) in
+    let no : IsBlock c.args.block.now.bytes → ⊥ = λ block. none.0 (c.in_ok-fields.ensures.holds.1 block) in
     rw (told.1, told.2, none.1) ((c.in_ok-check_roms.ensures, no), refl, refl, refl)
 
 pub check-requires : goal.check-requires
@@ -23,7 +23,7 @@ returns-in_err-check c =
     let opened = c.in_ok-fields.ensures in
     let not =
     may-not-run c.in_err-check.field-0.0 c.args.roms.now c.args.block.now.bytes c.args.microseconds c.args.samples.now _
-    c.in_ok-check_roms.ensures (opened.is_block c.in_ok-take.ensures.0) opened.state c.in_err-check.ensures in
+    c.in_ok-check_roms.ensures (opened.holds.0 c.in_ok-take.ensures.0) opened.state c.in_err-check.ensures in
     let told = err_from_is_err_and c.from_residual-in_err-check.result c.from_residual-in_err-check.ensures.1 in
     rw (told.1, told.2) (not, refl, refl, refl)
 
@@ -52,7 +52,7 @@ returns c =
       ran = ran.result.0;
       executed =
           executed roms c.args.block.now.bytes c.args.microseconds c.args.samples.now (set_of_roms roms) _ before block
-          ran.new.samples ran.result.0 (c.in_ok-check_roms.ensures, refl) (opened.is_block taken.0) opened.state may board
+          ran.new.samples ran.result.0 (c.in_ok-check_roms.ensures, refl) (opened.holds.0 taken.0) opened.state may board
           (subst (λ stop. IsBlockOf (state_left stop (board_after_run before c.args.microseconds).state) block) ran.ensures.stop
           (subst (λ (board : BoardValue). IsBlockOf (state_left ran.result.1 board.state) block) ran.ensures.board c.keep_run.ensures))
           ran.ensures.samples ran.ensures.ran;

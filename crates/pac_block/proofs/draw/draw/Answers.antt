@@ -11,7 +11,7 @@ returns c =
     record {
       roms_are = c.in_ok-check_roms.ensures;
       size = omega arith;
-      block_is = opened.is_block;
+      block_is = opened.holds;
       drawn =
           c.put_lines.ensures
           ∙ (ap (λ palette. rgba_of palette c.in_ok-fields.fields.lines.now)

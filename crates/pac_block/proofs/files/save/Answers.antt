@@ -11,7 +11,7 @@ returns c =
     record {
       roms_are = c.in_ok-check_roms.ensures;
       size = omega (arith, c.if-text-ne-FILE_SIZE.false);
-      block_is = opened.is_block;
+      block_is = opened.holds;
       saved = c.put_file.ensures
           ∙ ap (λ digest. sealed_file (body written_version digest (state_of c.in_ok-fields.fields))) c.digest.ensures
           ∙ ap (λ (state : BoardState). sealed_file (body written_version (digest_of (set_of_roms c.args.roms.now)) state)) opened.state;

@@ -19,7 +19,7 @@ returns c =
     let set = mask c.args.set in
     let clear = mask c.args.clear in
     record {
-      is_block = opened.is_block;
+      is_block = opened.holds;
       front_is = λ roms.
           subst (λ (state : BoardState). IsFrontOf state c.block_front.result)
           (ap (with_held (state_of c.in_ok-fields.fields)) c.holding-held.ensures

@@ -1,6 +1,6 @@
 -- The front of the board at power-on.
 use Rattle.pac_block.proofs.Common.{BoardState, IsFrontOf, IsStateInRange, List, View, ap, arith, black-picture, nothing_due}
-use Rattle.pac_block.proofs.Common.{power_on_accumulators, power_on_regs, power_on_view, range-of, subst, view_of_fields, ℕ, ◌∙◌}
+use Rattle.pac_block.proofs.Common.{power_on_accumulators, power_on_regs, power_on_view, subst, sym, view_of_fields, ℕ, ◌∙◌}
 use Rattle.pac_block.proofs.fronts.power_on_front.Goals as goal
 
 -- the state at power-on, of a memory and lines
@@ -22,15 +22,17 @@ block_front-requires c =
     let count = ap (λ (view : View). view.latched.count) memory in
     let state = at_power_on (view_of_fields c.fields.result) c.args.lines.now in
     let range : IsStateInRange state = record {
-      registers = c.fields.ensures.in_range.registers;
-      count = omega (arith, count);
-      accumulators = record { first = omega arith; second = omega arith; third = omega arith };
-      steps = omega arith;
-      time = omega arith;
-      asked = omega arith;
+      but_lines = record {
+        registers = c.fields.ensures.in_range.registers;
+        count = omega (arith, count);
+        accumulators = record { first = omega arith; second = omega arith; third = omega arith };
+        steps = omega arith;
+        time = omega arith;
+        asked = omega arith;
+      };
       picture = black-picture c.args.lines.now c.requires;
     } in
-    range-of c.power_on_fields.result state c.power_on_fields.ensures range
+    subst IsStateInRange (sym c.power_on_fields.ensures) range
 
 pub returns : goal.returns
 returns c = λ set.

@@ -12,12 +12,13 @@ with_both state regs memory = record {
 }
 
 pub reset_memory-memory-requires : goal.reset_memory-memory-requires
-reset_memory-memory-requires c = c.in_ok-fields.ensures.in_range.count
+reset_memory-memory-requires c = c.in_ok-fields.ensures.in_range.but_lines.count
 
 pub block_front-requires : goal.block_front-requires
 block_front-requires c =
     let range = c.in_ok-fields.ensures.in_range in
-    let kept = subst HoldWhatTheyCan (sym (ap (λ (view : View). view.registers) c.reset_memory-memory.ensures.view)) range.registers in
+    let hold = range.but_lines.registers in
+    let kept = subst HoldWhatTheyCan (sym (ap (λ (view : View). view.registers) c.reset_memory-memory.ensures.view)) hold in
     let count = c.reset_memory-memory.ensures.count in
     search rules
 
@@ -26,7 +27,7 @@ returns c =
     let opened = c.in_ok-fields.ensures in
     let state = state_of c.in_ok-fields.fields in
     record {
-      is_block = opened.is_block;
+      is_block = opened.holds;
       front_is = λ roms.
           subst (λ (state : BoardState). IsFrontOf state c.block_front.result)
           (ap (λ (regs : Regs). with_both state regs (view_of_fields c.reset_memory-memory.result))

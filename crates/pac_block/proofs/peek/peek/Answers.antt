@@ -5,7 +5,7 @@ use Rattle.pac_block.proofs.peek.peek.Goals as goal
 
 pub of-requires : goal.of-requires
 of-requires c =
-    let range = c.in_ok-fields.ensures.in_range in
+    let range = c.in_ok-fields.ensures.in_range.but_lines in
     let below = range.count in
     record { registers = range.registers; count = omega (arith, below) }
 
@@ -17,7 +17,7 @@ returns c =
     let opened = c.in_ok-fields.ensures in
     record {
       roms_are = c.in_ok-check_roms.ensures;
-      block_is = opened.is_block;
+      block_is = opened.holds;
       read =
           c.put_read.ensures
           ∙ ap (λ program. read program c.of.result) c.program_of.ensures

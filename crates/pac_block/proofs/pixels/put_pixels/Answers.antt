@@ -11,7 +11,7 @@ returns-clause-text c =
     λ k inside. c.requires.below k (omega (arith, c.fits-numbers.0, inside)) in
     let reds = map (λ n. slice_index colours.reds n) numbers in
     let greens = map (λ n. slice_index colours.greens n) numbers in
-    four-parts c.args.at c.args.rgba.now c.put_vector.new.rgba c.put_vector-2.new.rgba c.put_vector-3.new.rgba c.put_vector-4.new.rgba
+    four-parts c.args.at c.args.rgba.now c.put_vector.new.to c.put_vector-2.new.to c.put_vector-3.new.to c.put_vector-4.new.to
     bytes.0 bytes.1 bytes.2 bytes.3
     c.put_vector.ensures.text c.put_vector-2.ensures.text c.put_vector-3.ensures.text c.put_vector-4.ensures.text
     ∙ ap (λ pixels. take c.args.at c.args.rgba.now ++ pixels)

@@ -10,7 +10,7 @@ returns c =
     let opened = c.in_ok-fields.ensures in
     record {
       roms_are = c.in_ok-check_roms.ensures;
-      block_is = opened.is_block;
+      block_is = opened.holds;
       board =
           c.put_fields.ensures
           ∙ ap (λ board. restored_board board (state_of c.in_ok-fields.fields)) c.put_roms.ensures

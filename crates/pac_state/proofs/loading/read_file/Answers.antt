@@ -14,7 +14,7 @@ pub returns-in-Some-fields_in : goal.returns-in-Some-fields_in
 returns-in-Some-fields_in c = λ (set : Parts) (same : digest_of set ≡ c.args.digest.now).
     record {
       sound = ap (λ digest. load_fault digest c.args.bytes.now) same ∙ sym c.fault_of.ensures ∙ c.in_default.is;
-      text = c.in-Some-fields_in.ensures.text;
+      text = c.in-Some-fields_in.ensures.holds;
       state = c.in-Some-fields_in.ensures.state;
       in_range = c.in-Some-fields_in.ensures.in_range;
     }

@@ -1,5 +1,4 @@
-use Rattle.pac_state.proofs.Common.{arith, refl, state_of}
-use Rattle.pac_state.proofs.Taken.{in-range}
+use Rattle.pac_state.proofs.Common.{arith}
 
 pub returns : Rattle.pac_state.proofs.ranges.in_range.Goals.returns
 returns c = record {
@@ -10,10 +9,10 @@ returns c = record {
     work = c.sizes.ensures.work;
     coordinates = c.sizes.ensures.coordinates;
     registers = c.sizes.ensures.registers;
-    nibbles = c.requires.registers;
-    count = let below = c.requires.count in omega (arith, below);
+    nibbles = c.requires.but_lines.registers;
+    count = let below = c.requires.but_lines.count in omega (arith, below);
   };
   held = c.inputs.ensures;
   sample = c.sample.ensures;
-  range = in-range c.args.fields.now (state_of c.args.fields.now) refl c.requires;
+  range = c.requires;
 }

@@ -8,11 +8,11 @@ returns c =
     let planes = c.self.inside.planes in
     let bytes = c.weave.result in
     let below : (k : ℕ) → k < length numbers → get_or numbers k 0 < 16 = c.requires.below in
-    let long : length c.put_vector-3.new.pixels ≡ 48 =
+    let long : length c.put_vector-3.new.to ≡ 48 =
     c.put_vector-3.ensures.size ∙ (c.put_vector-2.ensures.size ∙ (c.put_vector.ensures.size ∙ c.requires.pixels)) in
     let reds = map (λ n. slice_index planes.reds n) c.sixteen-lanes.result in
     let greens = map (λ n. slice_index planes.greens n) c.sixteen-lanes.result in
-    three-parts c.args.pixels.now c.put_vector.new.pixels c.put_vector-2.new.pixels c.put_vector-3.new.pixels bytes.0 bytes.1 bytes.2
+    three-parts c.args.pixels.now c.put_vector.new.to c.put_vector-2.new.to c.put_vector-3.new.to bytes.0 bytes.1 bytes.2
     c.put_vector.ensures.text c.put_vector-2.ensures.text c.put_vector-3.ensures.text long
     ∙ (c.weave.ensures
     ∙ (ap (λ red. rgb_pixels red c.picked-green.result c.picked-blue.result) c.picked-red.ensures
