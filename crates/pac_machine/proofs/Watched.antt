@@ -4,12 +4,12 @@ use Rattle.pac_machine.proofs.Common.{DoesCpuStep, IsNoted, IsWatched, List, Map
 use Rattle.pac_machine.proofs.Common.{Some, Stepped, Steps, Stop, Stopped, Stops, Surroundings, WatchedBus, Write, [], actions_of, ap}
 use Rattle.pac_machine.proofs.Common.{arith, burst_at, bus_after_actions, by_view, cond, cpu_step, eventless_step, false, first_of}
 use Rattle.pac_machine.proofs.Common.{first_read, first_write, is_some, map_after_action, map_byte_at, map_input_at, nat_le, nat_lt}
-use Rattle.pac_machine.proofs.Common.{nat_tests, next_line, not, once_of_step, part_of, reads_in, refl, step, stepped, subst, suc}
+use Rattle.pac_machine.proofs.Common.{nat_tests, not, once_of_step, part_of, reads_in, refl, step, stepped, subst, suc}
 use Rattle.pac_machine.proofs.Common.{surroundings, surroundings_of, sym, true, watched_after_action, watched_at, watched_byte_at}
 use Rattle.pac_machine.proofs.Common.{watched_in, watched_input_at, watches_writes, ℕ, ◌&&◌, ◌++◌, ◌+◌, ◌-◌, ◌<◌, ◌∙◌, ◌∷◌, ◌≡◌, ◌≤◌}
 use Rattle.pac_cpu.specs.Action.{Output}
 use Rattle.pac_machine.specs.declared.watch.Access.TheVariants as access
-use Rattle.pac_machine.proofs.Batches.{surroundings-voiced, voiced_now, voices_after}
+use Rattle.pac_machine.proofs.Batches.{IsStill, lines_after, lines_to, played_now, surroundings-played, voices_after}
 use Rattle.pac_machine.proofs.Noted.{stepped-joined, burst-within, told-at}
 use Rattle.pac_machine.proofs.Processor.{surroundings-agree, board_of}
 
@@ -247,18 +247,18 @@ module _ (set : Parts) (marks : Option (List ℕ)) (next : Moment BoardView → 
 
 -- ---- a stretch
 
-watched-voiced : (set : Parts) (marks : Option (List ℕ)) (all : Accumulators) (now : Moment BoardView)
-    → watched_at set marks (voiced_now set all now) ≡ watched_at set marks now
-watched-voiced set marks all now = λ i.
-    let seen = surroundings-voiced set all now.board i in
+watched-played : (set : Parts) (marks : Option (List ℕ)) (all : Accumulators) (lines : List (List ℕ)) (now : Moment BoardView)
+    → watched_at set marks (played_now all lines now) ≡ watched_at set marks now
+watched-played set marks all lines now = λ i.
+    let seen = surroundings-played set all lines now.board i in
     watched_in seen marks now.regs ((by_view set).request now.board) (cpu_step seen now.regs ((by_view set).request now.board))
 
-pub stretch-watched : (old mid : BoardStanding) (until begun steps : ℕ) (stop : Option Stop) (marks : Option (List ℕ))
-    (met : Option Access) (told after : Option (List PastStep)) → until ≤ next_line old.now.time → BurstsQuietly old until mid stop begun
-    → IsNoted (eventless_step (by_view old.set)) until old.now mid.now told after
-    → IsWatched old.set marks (eventless_step (by_view old.set)) old.now mid.now.steps met → steps ≡ mid.now.steps
+pub stretch-watched : {old mid : BoardStanding} {until begun : ℕ} {stop : Option Stop} {told after : Option (List PastStep)}
+    (burst : BurstsQuietly old until mid stop begun) (still : IsStill old mid until burst.tries)
+    (bare : IsNoted (eventless_step (by_view old.set)) until old.now mid.now told after) (marks : Option (List ℕ)) (met : Option Access)
+    (steps : ℕ) → IsWatched old.set marks (eventless_step (by_view old.set)) old.now mid.now.steps met → steps ≡ mid.now.steps
     → IsWatched old.set marks (step (by_view old.set)) old.now steps met
-stretch-watched old mid until begun steps stop marks met told after near burst bare watched same = record {
+stretch-watched {old} {mid} {until} burst still bare marks met steps watched same = record {
   before = λ n few. alike n (omega arith) ∙ watched.before n (omega arith);
   last = λ n few. alike n (omega arith) ∙ watched.last n (omega arith);
   none = λ few. watched.none (omega arith);
@@ -268,9 +268,10 @@ stretch-watched old mid until begun steps stop marks met told after near burst b
         → watched_at old.set marks (stepped (step (by_view old.set)) old.now n)
         ≡ watched_at old.set marks (stepped (eventless_step (by_view old.set)) old.now n)
     alike n few =
-        let within = burst-within old mid until begun stop told after near burst bare in
+        let within = burst-within burst still bare in
         let so_many = bare.steps in
-        let there = told-at old until near burst.tries burst.going burst.quiet n (omega arith) in
+        let there = told-at burst still n (omega arith) in
+        let w = burst_at old until n in
         ap (watched_at old.set marks) (sym there.whole ∙ there.laid.now)
-        ∙ watched-voiced old.set marks (voices_after old until near there.laid.count) (burst_at old until n).now
+        ∙ watched-played old.set marks (voices_after old there.laid.count) (lines_after old (lines_to old w.now.time)) w.now
         ∙ ap (watched_at old.set marks) there.bare
