@@ -4,6 +4,7 @@ pub mod StepProofs
 pub mod StepLaws
 pub mod StepReads
 pub mod StepReadsLaws
+pub mod StepRefresh
 pub use Rattle.pac_num.specs.Tabulate
 pub use Rattle.pac_table.specs.Instructions
 pub use Rattle.pac_table.specs.declared.effects.InterruptMode
@@ -17,4 +18,5 @@ pub use Rattle.pac_exec.specs.declared.reads.DataReads
 pub use Rattle.pac_exec.specs.declared.reads.DataReads.TheVariants as DataReadsVariants
 pub use Rattle.pac_exec.specs.CellsRead
 pub use Rattle.pac_exec.specs.CellsReadProofs
+pub use Rattle.pac_exec.specs.Refresh
 pub use Rattle.pac_bus.specs.ActionLaws

@@ -7,6 +7,7 @@ ghost use Rattle.pac_cpu.specs.StepLaws.{CpuStepRestsOnAnswers, EachCpuStepIsInT
 ghost use Rattle.pac_cpu.specs.StepLaws.{surroundings_of};
 ghost use Rattle.pac_cpu.specs.Step.{cpu_step};
 ghost use Rattle.pac_cpu.specs.StepReadsLaws.{CpuStepRestsOnReads};
+ghost use Rattle.pac_cpu.specs.StepRefresh.{StepLeavesRefresh};
 
 use pac_bus::Bus;
 
@@ -18,6 +19,11 @@ pub fn cpu_step_rests_on_answers()
 /// A step rests on no other cells than its code and those that it reads as data.
 pub fn cpu_step_rests_on_reads()
     ensures { CpuStepRestsOnReads }
+{}
+
+/// A step that leaves R comes to the same with another.
+pub fn step_leaves_refresh()
+    ensures { StepLeavesRefresh }
 {}
 
 /// A step that is no stop takes 4 to 23 T-states.

@@ -1,5 +1,9 @@
 //! What one step of the processor comes to.
 
+ghost use Rattle.std.specs.Prelude.{◌≡◌};
+ghost use Rattle.pac_cpu.specs.StepRefresh.{kind_leaves_refresh};
+
+use pac_exec::leaves_refresh;
 use pac_table::Instr;
 
 /// What one call of `step` did.
@@ -25,6 +29,18 @@ pub enum StepKind {
     Halted,
     /// An interrupt was accepted.
     Accepted,
+}
+
+impl StepKind {
+    /// Whether it ran an instruction that neither asks R nor changes it, of those by which programs wait.
+    pub fn leaves_refresh(&self) -> bool
+        ensures { result ≡ kind_leaves_refresh self.now }
+    {
+        match self {
+            StepKind::Ran(instr) => leaves_refresh(instr.effect()),
+            StepKind::Halted | StepKind::Accepted => false,
+        }
+    }
 }
 
 /// Why and where no step can be done.

@@ -20,5 +20,6 @@ pub mod Effect
 pub mod CellsRead
 pub mod CellsReadProofs
 pub mod CellsReadLaws
+pub mod Refresh
 pub use Rattle.pac_table.specs.declared.effects.InterruptMode
 pub use Rattle.pac_table.specs.declared.effects.InterruptMode.TheVariants as InterruptModeVariants

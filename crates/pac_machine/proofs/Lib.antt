@@ -11,6 +11,7 @@ pub mod Rests
 pub mod Trails
 pub mod Notes
 pub mod Noted
+pub mod Turns
 pub mod Noting
 pub mod Passing
 pub mod Watched

@@ -34,6 +34,12 @@ unwatched seen regs request (Steps after actions ticks kind) =
     ∙ free-of-reads (reads_in (Stepped ticks kind) regs request)
 unwatched seen regs request (Stops stop) = refl
 
+pub unwatched-at : (set : Parts) (now : Moment BoardView) → watched_at set None now ≡ None
+unwatched-at set now =
+    let ask = by_view set in
+    let seen = surroundings ask now.board in
+    unwatched seen now.regs (ask.request now.board) (cpu_step seen now.regs (ask.request now.board))
+
 -- ---- the bus that looks at each write
 
 abbrev after_all : WatchedBus → List Action → WatchedBus

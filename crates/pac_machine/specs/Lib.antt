@@ -10,4 +10,5 @@ pub mod Watches
 pub mod WatchesProofs
 pub mod Fields
 pub mod FieldsProofs
+pub mod Idle
 pub use Rattle.pac_wave.specs.Wave

@@ -5,6 +5,7 @@
 mod due;
 mod fields;
 mod frozen;
+mod idle;
 mod machine;
 mod note;
 mod ring;

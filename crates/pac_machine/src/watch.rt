@@ -64,6 +64,10 @@ pub trait Watch {
             (cpu_step (surroundings_of map_byte_at map_input_at map_after_action map.old) cpu.old
             request) };
 
+    /// Whether any address is watched.
+    fn is_watching(&self) -> bool
+        ensures { result ≡ is_some (marks self.now) };
+
     /// Whether anything was met.
     fn has_met(&self) -> bool
         ensures { result ≡ is_some (met self.now) };
@@ -86,6 +90,12 @@ impl Watch for Unwatched {
     #[inline(always)]
     fn step(&mut self, cpu: &mut Cpu, map: &mut Map, request: Option<u8>) -> Once {
         cpu.step(map, request)
+    }
+
+    /// No.
+    #[inline(always)]
+    fn is_watching(&self) -> bool {
+        false
     }
 
     /// Never.
@@ -188,6 +198,12 @@ impl Watch for WatchedAddresses<'_> {
         let once = bus.step(cpu, request);
         self.met = written_or_read(bus.met, self.marks, &once, &before, request);
         once
+    }
+
+    /// Yes.
+    #[inline(always)]
+    fn is_watching(&self) -> bool {
+        true
     }
 
     /// Whether one was met.
