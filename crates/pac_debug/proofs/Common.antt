@@ -5,20 +5,21 @@ pub use Rattle.pac_debug_session.proofs.Common.{AreSeen, BoardState, BoardView, 
 pub use Rattle.pac_debug_session.proofs.Common.{IsFinishRefused, IsFinished, IsLeast, IsOutcome, IsSeen, IsSession, IsSessionOfferRefused}
 pub use Rattle.pac_debug_session.proofs.Common.{IsTooOld, IsTravelRefused, List, Moment, None, Ok, Option, Output, RestsBy, Result}
 pub use Rattle.pac_debug_session.proofs.Common.{SessionValue, Setting, Some, Stop, TookAll, [], ap, append_assoc, arith, back_to, breaks_at}
-pub use Rattle.pac_debug_session.proofs.Common.{by, cases_lt, common_steps, cut-after, cut-along, drop, err_from_is_err_and, false, filter}
-pub use Rattle.pac_debug_session.proofs.Common.{get_or, goes_at, has_breakpoint, has_met, is_late, length, length-drop, length-filter_both}
-pub use Rattle.pac_debug_session.proofs.Common.{length-set, max, most_breakpoints, motion_ending, moved_to, nat_le, nat_lt, nat_tests, not}
-pub use Rattle.pac_debug_session.proofs.Common.{not-both, nothing_due, now_at, oldest_index, outputs_between, outputs_from, past_steps}
-pub use Rattle.pac_debug_session.proofs.Common.{play_of, refl, rests, rules, run, session_at_command, session_at_start, session_due_outputs}
-pub use Rattle.pac_debug_session.proofs.Common.{session_with_slot, set, stop_at, subst, suc, sym, told_at, took-both, true, whole_run, zero}
-pub use Rattle.pac_debug_session.proofs.Common.{ℕ, ◌++◌, ◌+◌, ◌-◌, ◌<◌, ◌==◌, ◌||◌, ◌∙◌, ◌∷◌, ◌≡◌, ◌≤◌}
+pub use Rattle.pac_debug_session.proofs.Common.{by, cases_lt, cases_order, common_steps, cut-after, cut-along, drop, err_from_is_err_and}
+pub use Rattle.pac_debug_session.proofs.Common.{false, filter, get_or, goes_at, has_breakpoint, has_met, is_late, length, length-drop}
+pub use Rattle.pac_debug_session.proofs.Common.{length-filter_both, length-set, max, most_breakpoints, motion_ending, moved_to, nat_le}
+pub use Rattle.pac_debug_session.proofs.Common.{nat_lt, nat_tests, not, not-both, not-false, nothing_due, now_at, oldest_index, or_parts}
+pub use Rattle.pac_debug_session.proofs.Common.{or_right, outputs_between, outputs_from, past_steps, play_of, refl, rests, rules, run}
+pub use Rattle.pac_debug_session.proofs.Common.{session_at_command, session_at_start, session_due_outputs, session_with_slot, set, stop_at}
+pub use Rattle.pac_debug_session.proofs.Common.{subst, suc, sym, told_at, took-both, true, whole_run, zero, ℕ, ◌++◌, ◌+◌, ◌-◌, ◌<◌, ◌==◌}
+pub use Rattle.pac_debug_session.proofs.Common.{◌∙◌, ◌∷◌, ◌≡◌, ◌≤◌}
 pub use Rattle.pac_debug_text.proofs.Common.{slot_index, wrapped_address}
 unfoldable pub use Rattle.pac_debug_text.proofs.Common.{bytes_from, command_of}
 pub use Rattle.pac_out.proofs.Common.{Refuses, Takes, append-nil, length-append}
 pub use Rattle.pac_board.proofs.LatchBytes.{byte_of-bits_of}
 pub use Rattle.pac_board.specs.Due.{Due}
 pub use Rattle.pac_debug.specs.Answers.{answer_text, ending_of, session_byte_at, session_moment, told_lines}
-pub use Rattle.pac_debug.specs.GoingOn.{AnswersEach, AreDoneInTurn, AreInOrder, ComesTo, EndIn, GoesIntoFile, IsHeldUpAfter, IsHeldUpAt}
+pub use Rattle.pac_debug.specs.GoingOn.{AnswersEach, AreDoneInTurn, AreInOrder, ComesTo, GoesIntoFile, IsHeldUpAfter, IsHeldUpAt}
 pub use Rattle.pac_debug.specs.GoingOn.{LeavesEach, LeavesLine, LineAnswer, NoneIsTold, Offered, TextsAreLines, WasOffered, WasRefused}
 pub use Rattle.pac_debug.specs.GoingOn.{WasTaken}
 pub use Rattle.pac_debug.specs.Laws.{AllLinesTell, TellsOneThing}

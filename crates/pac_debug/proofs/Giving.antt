@@ -28,8 +28,8 @@ still old new same = like old new old same refl refl refl
 went-back : (old : SessionValue) (count : ℕ) (answer : Answer) (new : SessionValue) → AnswersBack old count answer new → IsStill old new
 went-back old count answer new went = search rules
 
-returned : (old : SessionValue) (kept : Option ℕ) (answer : Answer) (new : SessionValue) → AnswersReturn old kept answer new →
-    IsStill old new
+returned : (old : SessionValue) (kept : Option ℕ) (answer : Answer) (new : SessionValue) → AnswersReturn old kept answer new
+    → IsStill old new
 returned old kept answer new came = search rules
 
 set-there : (old : SessionValue) (address : ℕ) (is_set : Bool) (answer : Answer) (new : SessionValue)
@@ -162,14 +162,12 @@ module _ {S : Type 0} (to : Giving S) where
     line-given (Some asked) result old new told = did-given to.took old.session asked old.sink told.answer new.session new.sink told.did
 
     pub lines-given : (lines : List (List ℕ)) (result : Result (Unit {0}) CommandFault) (old new : Scene S W)
-        → ObeysLines to wrote balked lines old result new
-        → LinesGive to old.session old.sink result new.session new.sink
+        → ObeysLines to wrote balked lines old result new → LinesGive to old.session old.sink result new.session new.sink
     lines-given [] (Ok done) old new same = grind (arith, none-given)
     lines-given [] (Err fault) old new obeyed = absurd obeyed
     lines-given (line ∷ more) (Ok done) old new obeyed =
         gave-after {A = Unit {0}} (Ok done) old.session obeyed.between.session new.session old.sink obeyed.between.sink new.sink
-        (line-given (command_of line) (Ok tt) old obeyed.between obeyed.before)
-        (lines-given more (Ok done) obeyed.between new obeyed.after)
+        (line-given (command_of line) (Ok tt) old obeyed.between obeyed.before) (lines-given more (Ok done) obeyed.between new obeyed.after)
     lines-given (line ∷ more) (Err fault) old new (inl here) = line-given (command_of line) (Err fault) old new here
     lines-given (line ∷ more) (Err fault) old new (inr later) =
         search (rules, arith, gave-after, line-given, lines-given more (Err fault) later.between new later.after)

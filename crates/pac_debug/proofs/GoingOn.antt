@@ -1,9 +1,9 @@
 -- Lines that go on after one that wasn't answered: where they leave the session, and what the file took.
-use Rattle.pac_debug.proofs.Common.{AnswersEach, AreDoneInTurn, ComesTo, Command, Commands, Counted, EndIn, Err, Giving, GoesIntoFile}
-use Rattle.pac_debug.proofs.Common.{IsHeldUp, IsHeldUpAfter, IsHeldUpAt, IsLineAnswered, LeavesLine, LineAnswer, List, Motion, NoCommand}
-use Rattle.pac_debug.proofs.Common.{None, NoneIsTold, Ok, Option, Output, RefusedOf, Result, Scene, SessionValue, Some, TextsAreLines, []}
-use Rattle.pac_debug.proofs.Common.{ap, append_assoc, append_cancel_left, arith, between-joined, command_of, length, outputs_between, refl}
-use Rattle.pac_debug.proofs.Common.{rests, rules, session_due_outputs, session_without_due, subst, sym, true, ℕ, ◌++◌, ◌<◌, ◌∙◌, ◌∷◌, ◌≡◌}
+use Rattle.pac_debug.proofs.Common.{AnswersEach, AreDoneInTurn, ComesTo, Command, Commands, Counted, Err, Giving, GoesIntoFile, IsHeldUp}
+use Rattle.pac_debug.proofs.Common.{IsHeldUpAfter, IsHeldUpAt, IsLineAnswered, LeavesLine, LineAnswer, List, Motion, NoCommand, None}
+use Rattle.pac_debug.proofs.Common.{NoneIsTold, Ok, Option, Output, RefusedOf, Result, Scene, SessionValue, Some, TextsAreLines, [], ap}
+use Rattle.pac_debug.proofs.Common.{append_assoc, append_cancel_left, arith, between-joined, command_of, length, outputs_between, refl}
+use Rattle.pac_debug.proofs.Common.{rests, rules, session_due_outputs, session_without_due, sym, true, ℕ, ◌++◌, ◌<◌, ◌∙◌, ◌∷◌, ◌≡◌}
 use mathlib.Core.Logic.{inl, inr}
 use Rattle.pac_debug.specs.declared.line.CommandFault.TheVariants as faults
 use Rattle.pac_debug.proofs.Giving.{line-given}
@@ -11,7 +11,7 @@ use Rattle.pac_debug.proofs.Telling.{line-told, line-refused, line-untold}
 use Rattle.pac_debug.proofs.Offers.{HasGiven, gave-none, gave-by, gave-on}
 
 some-due : (due : List Output) (first : Output) (rest : List Output) → due ≡ first ∷ rest → 0 < length due
-some-due due first rest is = subst (λ (xs : List Output). 0 < length xs) (sym is) (omega arith)
+some-due due first rest is = rw is (omega arith)
 
 module _ {S : Type 0} (to : Giving S) where
   -- ---- where a refused line leaves the session
@@ -66,42 +66,37 @@ module _ {S : Type 0} (to : Giving S) where
 
     -- one line, and then the others
     module _ (line : List ℕ) (lines : List (List ℕ)) (answers : List LineAnswer) (old mid new : Scene S W)
-        (after : AnswersEach to wrote balked lines answers mid new) (rest : ComesTo to wrote balked lines answers mid new)
-      where
-        given-in-all : (answer : LineAnswer) → Commands to wrote balked line old answer mid
-            → HasGiven to old.session old.sink new.session new.sink
-        given-in-all answer here = grind (arith, gave-by, gave-on, line-given)
+        (after : AnswersEach to wrote balked lines answers mid new) (rest : ComesTo to wrote balked lines answers mid new) where
+      -- by where it leaves the session, and what the file took
+      first-as : (answer : LineAnswer) (text : List ℕ) → Commands to wrote balked line old answer mid
+          → LeavesLine line answer old.session text mid.session
+          → GoesIntoFile wrote balked (line ∷ lines) (answer ∷ answers) (text ∷ rest.texts) old.text new.text
+          → ComesTo to wrote balked (line ∷ lines) (answer ∷ answers) old new
+      first-as answer text here left file =
+          let given : HasGiven to old.session old.sink new.session new.sink = grind (arith, gave-by, gave-on, line-given) in
+          record {
+            further = given.further;
+            offers = given.offers;
+            offered = given.offered;
+            in_order = given.in_order;
+            texts = text ∷ rest.texts;
+            left = record { between = mid.session; before = left; after = rest.left };
+            file = file;
+          }
 
-        -- by where it leaves the session, and what the file took
-        first-as : (answer : LineAnswer) (text : List ℕ) → Commands to wrote balked line old answer mid
-            → LeavesLine line answer old.session text mid.session
-            → GoesIntoFile wrote balked (line ∷ lines) (answer ∷ answers) (text ∷ rest.texts) old.text new.text
-            → ComesTo to wrote balked (line ∷ lines) (answer ∷ answers) old new
-        first-as answer text here left file =
-            let given = given-in-all answer here in
-            record {
-              further = given.further;
-              offers = given.offers;
-              offered = given.offered;
-              in_order = given.in_order;
-              texts = text ∷ rest.texts;
-              left = record { between = mid.session; before = left; after = rest.left };
-              file = file;
-            }
-
-        first-then : (answer : LineAnswer) → Commands to wrote balked line old answer mid
-            → ComesTo to wrote balked (line ∷ lines) (answer ∷ answers) old new
-        first-then (Ok done) here =
-            let told = line-told to wrote balked done (command_of line) old mid here in
-            first-as (Ok done) told.text here told.tells (record { between = mid.text; before = (told.takes, told.later); after = rest.file })
-        first-then (Err faults.Refused) here =
-            let refusal = line-refused to wrote balked (command_of line) old mid here in
-            first-as (Err faults.Refused) [] here (held-at (command_of line) old.session old.sink mid.session mid.sink refusal.0, refl)
-            (subst (λ (file : Counted W). GoesIntoFile wrote balked lines answers rest.texts file new.text) refusal.1 rest.file)
-        first-then (Err (faults.Text fault)) here =
-            let told = line-untold to wrote balked (command_of line) fault old mid here in
-            let closed = stays-closed lines answers mid new after told.refuses.closed in
-            first-as (Err (faults.Text fault)) told.text here told.tells (search rules)
+      first-then : (answer : LineAnswer) → Commands to wrote balked line old answer mid
+          → ComesTo to wrote balked (line ∷ lines) (answer ∷ answers) old new
+      first-then (Ok done) here =
+          let told = line-told to wrote balked done (command_of line) old mid here in
+          first-as (Ok done) told.text here told.tells (record { between = mid.text; before = (told.takes, told.later); after = rest.file })
+      first-then (Err faults.Refused) here =
+          let refusal = line-refused to wrote balked (command_of line) old mid here in
+          first-as (Err faults.Refused) [] here (held-at (command_of line) old.session old.sink mid.session mid.sink refusal.0, refl)
+          (rw refusal.1 at rest.file)
+      first-then (Err (faults.Text fault)) here =
+          let told = line-untold to wrote balked (command_of line) fault old mid here in
+          let closed = stays-closed lines answers mid new after told.refuses.closed in
+          first-as (Err (faults.Text fault)) told.text here told.tells (search rules)
 
     pub comes-to : (lines : List (List ℕ)) (answers : List LineAnswer) (old new : Scene S W)
         → AnswersEach to wrote balked lines answers old new → ComesTo to wrote balked lines answers old new
@@ -111,9 +106,6 @@ module _ {S : Type 0} (to : Giving S) where
     comes-to lines answers old new all = absurd all
 
 -- ---- a text of lines
-
-end-after : (answers : List LineAnswer) (result : LineAnswer) → EndIn answers result → EndIn (Ok tt ∷ answers) result
-end-after answers result is = search rules
 
 module _ {S W : Type 0} (to : Giving S) (wrote : W → List ℕ → W → Type 0) (balked : W → W → Type 0) where
   -- one more line before
@@ -125,13 +117,12 @@ module _ {S W : Type 0} (to : Giving S) (wrote : W → List ℕ → W → Type 0
     left = rest.left;
     parts = ap (λ ls. line ∷ ls) rest.parts;
     answers = Ok tt ∷ rest.answers;
-    end_is = end-after rest.answers result rest.end_is;
+    end_is = search rules;
     each = record { between = mid; before = here; after = rest.each };
   }
 
   pub in-turn : TextsAreLines to wrote balked
-  in-turn [] old (Ok done) new same =
-      record { before = []; left = []; parts = refl; answers = []; end_is = refl; each = same }
+  in-turn [] old (Ok done) new same = record { before = []; left = []; parts = refl; answers = []; end_is = refl; each = same }
   in-turn [] old (Err fault) new obeyed = absurd obeyed
   in-turn (line ∷ lines) old (Ok done) new obeyed =
       one-more line lines old obeyed.between new (Ok done) obeyed.before (in-turn lines obeyed.between (Ok done) new obeyed.after)

@@ -46,8 +46,7 @@ none-past-all : (setting : Setting) (index : ℕ) → length (run setting index)
 none-past-all setting index =
     let joined : (run setting index).outputs ++ outputs_from setting index ≡ (whole_run setting).outputs
     = joined-to-end setting 0 index (omega arith) in
-    let long = sym (ap length joined) ∙ length-append (run setting index).outputs (outputs_from setting index) in
-    omega (arith, long)
+    let long = sym (ap length joined) ∙ length-append (run setting index).outputs (outputs_from setting index) in omega (arith, long)
 
 -- what a session from the beginning of its run was taken, and what is due, is all that was given
 all-given : (setting : Setting) (old new : SessionValue) (taken : List Output) → old ≡ session_at_start setting 0
@@ -67,11 +66,9 @@ module _ {S : Type 0} (to : Giving S) (setting : Setting) (taken : List Output) 
 
   -- what was given before is what was taken, or less
   no-more : (more : List Output) → old.furthest ≤ new.furthest
-      → outputs_between old.setting old.furthest new.furthest ≡ more ++ session_due_outputs new
-      → length (given_by old) ≤ length taken
+      → outputs_between old.setting old.furthest new.furthest ≡ more ++ session_due_outputs new → length (given_by old) ≤ length taken
   no-more more further parts =
-      let here : length (given_by old) ≡ length (run setting old.furthest).outputs
-      = ap (λ (it : Setting). length (run it old.furthest).outputs) same in
+      let here : length (given_by old) ≡ length (run setting old.furthest).outputs = rw same in
       let between : length (outputs_between setting old.furthest new.furthest) ≡ length more + length (session_due_outputs new)
       = grind (arith, common_steps) in
       omega (arith, here, between, more-given setting old.furthest new.furthest further, given)
@@ -121,15 +118,14 @@ module _ {S : Type 0} (to : Giving S) (setting : Setting) (taken : List Output) 
       let answer = answers.Moved (ending_of rest.why) in
       let moved : IsCommandPerformed takes_all (session_without_due old) held.command (Some held.motion) tt answer rest.new tt
       = record { why = rest.why; travelled = rest.travelled; answer_is = refl } in
-      let done : IsCommandObeyed takes_all (session_without_due old) (Ok held.command) tt answer rest.new tt
-      = search rules in
+      let done : IsCommandObeyed takes_all (session_without_due old) (Ok held.command) tt answer rest.new tt = search rules in
       record {
         no_more = less-told held.motion refusal.between held.held_up;
         text = answer_text rest.new answer;
         next = rest.new;
         tells = record {
           answer = answer;
-          obeyed = subst (λ it. IsCommandObeyed takes_all (session_without_due old) it tt answer rest.new tt) (sym held.asked_is) done;
+          obeyed = rw held.asked_is done;
           text_is = refl;
         };
         more = gives-more held.motion refusal.between held.held_up;
@@ -153,17 +149,15 @@ module _ {S : Type 0} (to : Giving S) (setting : Setting) (taken : List Output) 
 
 -- ---- a whole session
 
-module _ {S W : Type 0} (to : Giving S) (wrote : W → List ℕ → W → Type 0) (lines : List (List ℕ))
-    (old new : Scene S W) (fresh : old.session ≡ session_at_start old.session.setting 0)
-    (held : IsWatchRefused to wrote lines old new) where
+module _ {S W : Type 0} (to : Giving S) (wrote : W → List ℕ → W → Type 0) (lines : List (List ℕ)) (old new : Scene S W)
+    (fresh : old.session ≡ session_at_start old.session.setting 0) (held : IsWatchRefused to wrote lines old new) where
   pub told-up-to : ToldUpTo old.session.setting lines held.in_all.cut.taken held.told
   told-up-to =
       let setting = old.session.setting in
       let cut = held.in_all.cut in
       let none : old.session.due ≡ nothing_due = ap (λ (s : SessionValue). s.due) fresh in
       let clear = lines-clear held.before old.session held.between held.told held.lines none in
-      let left : 0 < length (session_due_outputs new.session) =
-      let first = ap length cut.refuses.left_is in omega (arith, first) in
+      let left : 0 < length (session_due_outputs new.session) = let first = ap length cut.refuses.left_is in omega (arith, first) in
       let here =
       held-up-in to setting cut.taken held.between new.session held.sink_between new.sink clear held.gave.further.setting
       (all-given setting old.session new.session cut.taken fresh cut.parts) left held.after held.refusal in search rules
@@ -172,8 +166,7 @@ module _ {S W : Type 0} (to : Giving S) (wrote : W → List ℕ → W → Type 0
 pub all-told : (lines : List (List ℕ)) (old left : SessionValue) (told : List ℕ) → old ≡ session_at_start old.setting 0
     → TellsAll lines old told left → ToldUpTo old.setting lines (whole_run old.setting).outputs told
 all-told lines old left told fresh tells =
-    let here : length (given_by left) ≡ length (run old.setting left.furthest).outputs
-    = ap (λ (it : Setting). length (run it left.furthest).outputs) (lines-setting lines old left told tells) in
+    let here : length (given_by left) ≡ length (run old.setting left.furthest).outputs = rw (lines-setting lines old left told tells) in
     record {
       before = lines;
       after = [];

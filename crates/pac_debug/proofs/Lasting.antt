@@ -1,8 +1,7 @@
 -- The last ones of a list, written one after another.
-use Rattle.pac_debug.proofs.Common.{List, Setting, arith, drop, get_or, get_or-drop, get_or_from_slice_get, length, length-drop, length-set}
-use Rattle.pac_debug.proofs.Common.{past_steps, set, slice_get, slice_get_within, take, take_more, take_more_set, told_at, ℕ, ◌+◌, ◌-◌, ◌<◌}
-use Rattle.pac_debug.proofs.Common.{◌∙◌, ◌≡◌, ◌≤◌}
-use Rattle.std.specs.Prelude.{Some}
+use Rattle.pac_debug.proofs.Common.{List, Setting, Some, arith, drop, get_or, get_or-drop, get_or_from_slice_get, length, length-drop}
+use Rattle.pac_debug.proofs.Common.{length-set, past_steps, set, slice_get, slice_get_within, take, take_more, take_more_set, told_at, ℕ}
+use Rattle.pac_debug.proofs.Common.{◌+◌, ◌-◌, ◌<◌, ◌∙◌, ◌≡◌, ◌≤◌}
 
 pub one-more : {X : Type 0} (written all : List X) (first i : ℕ) (x : X) → i < length written → slice_get all (first + i) ≡ Some x
     → take i written ≡ take i (drop first all) → take (i + 1) (set written i x) ≡ take (i + 1) (drop first all)

@@ -1,7 +1,6 @@
 -- The lines of a text, one after another: what the lines that are left lead to is what the whole text leads to.
-use Rattle.pac_debug.proofs.Common.{CommandFault, Commands, Giving, IsLineAnswered, List, ObeysLines, Scene, [], arith, refl, rules, subst}
-use Rattle.pac_debug.proofs.Common.{sym, ℕ, ◌∷◌, ◌≡◌}
-use Rattle.std.specs.Prelude.{Result, Ok, Err}
+use Rattle.pac_debug.proofs.Common.{CommandFault, Commands, Err, Giving, IsLineAnswered, List, ObeysLines, Ok, Result, Scene, [], arith}
+use Rattle.pac_debug.proofs.Common.{refl, rules, subst, sym, ℕ, ◌∷◌, ◌≡◌}
 use mathlib.Core.Logic.{inr}
 
 module _ {S W : Type 0} (to : Giving S) (wrote : W → List ℕ → W → Type 0) (balked : W → W → Type 0) where
@@ -23,8 +22,7 @@ module _ {S W : Type 0} (to : Giving S) (wrote : W → List ℕ → W → Type 0
   -- none is left
   pub leads-to-end : (whole left : List (List ℕ)) (old now : Scene S W) → left ≡ [] → Leads whole left old now
       → ObeysLines to wrote balked whole old (Ok tt) now
-  leads-to-end whole left old now is was =
-      was (Ok tt) now (subst (λ ls. ObeysLines to wrote balked ls now (Ok tt) now) (sym is) refl)
+  leads-to-end whole left old now is was = was (Ok tt) now (subst (λ ls. ObeysLines to wrote balked ls now (Ok tt) now) (sym is) refl)
 
   -- the next one isn't answered
   pub leads-to-fault : (whole left more : List (List ℕ)) (line : List ℕ) (old now next : Scene S W) (fault : CommandFault)

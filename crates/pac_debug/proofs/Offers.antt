@@ -1,7 +1,7 @@
 -- What lines that go on offer to the sink: each output in order, until it is taken.
 use Rattle.pac_debug.proofs.Common.{AreInOrder, CommandFault, Err, Giving, IsFurther, LinesGive, List, Offered, Output, Result}
 use Rattle.pac_debug.proofs.Common.{SessionValue, TookAll, WasOffered, WasRefused, WasTaken, [], arith, between-joined, between-self}
-use Rattle.pac_debug.proofs.Common.{outputs_between, outputs_until, refl, rules, session_due_outputs, subst, sym, ◌++◌, ◌∷◌, ◌≡◌}
+use Rattle.pac_debug.proofs.Common.{outputs_between, outputs_until, refl, rules, session_due_outputs, subst, ◌++◌, ◌∷◌, ◌≡◌}
 use Rattle.pac_debug.specs.declared.line.CommandFault.TheVariants as faults
 use Rattle.pac_debug.proofs.Giving.{further-on}
 
@@ -69,9 +69,7 @@ module _ {S : Type 0} (to : Giving S) where
     further = gave.further;
     offers = taken_offers gave.taken;
     offered = all-offered gave.taken sink later gave.sink_is;
-    in_order =
-        subst (λ xs. AreInOrder xs (taken_offers gave.taken) (session_due_outputs new)) (sym gave.parts)
-        (order-taken gave.taken (session_due_outputs new));
+    in_order = rw gave.parts (order-taken gave.taken (session_due_outputs new));
   }
 
   pub gave-on : (old mid new : SessionValue) (sink between later : S) → HasGiven old sink mid between → HasGiven mid between new later

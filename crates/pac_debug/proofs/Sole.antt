@@ -2,9 +2,9 @@
 use Rattle.pac_debug.proofs.Common.{Answer, AnswersBack, AnswersReturn, AtBreakpoint, AtEnd, AtFrame, AtStep, AtStop, Bool, Command, Err}
 use Rattle.pac_debug.proofs.Common.{HasMoved, IsBack, IsCommandObeyed, IsCommandPerformed, IsDone, IsLeast, IsTooOld, List, Motion}
 use Rattle.pac_debug.proofs.Common.{MotionEnd, NoCommand, None, Ok, Option, Output, RestsBy, Result, SessionValue, SetsBreakpoint, Some}
-use Rattle.pac_debug.proofs.Common.{Stays, Stop, TellsAll, TellsOfCommand, TellsOneThing, [], ap, arith, breaks_at, command_of, false}
-use Rattle.pac_debug.proofs.Common.{has_breakpoint, has_met, is_late, kept_at, motion_ending, motion_of, nat_lt, nat_tests, not-both}
-use Rattle.pac_debug.proofs.Common.{oldest_index, refl, rules, slot_index, stop_at, subst, sym, true, ℕ, ◌-◌, ◌<◌, ◌∙◌, ◌∷◌, ◌≡◌, ◌⊎◌}
+use Rattle.pac_debug.proofs.Common.{Stays, Stop, TellsOfCommand, TellsOneThing, [], ap, arith, breaks_at, cases_order, command_of, false}
+use Rattle.pac_debug.proofs.Common.{has_breakpoint, has_met, is_late, kept_at, motion_ending, motion_of, not-both, refl, rules, slot_index}
+use Rattle.pac_debug.proofs.Common.{stop_at, sym, true, ℕ, ◌<◌, ◌∙◌, ◌∷◌, ◌≡◌}
 use mathlib.Core.Logic.{inl, inr}
 use Rattle.pac_debug_text.specs.declared.command.Command.TheVariants as commands
 use Rattle.pac_debug_text.specs.declared.place.Ending.TheVariants as endings
@@ -17,12 +17,11 @@ not-less : (test : ℕ → Bool) (from index other : ℕ) → IsLeast test from 
 not-less test from index other one two less = not-both (sym one.here ∙ two.none_before index one.after less)
 
 least-once : (test : ℕ → Bool) (from index other : ℕ) → IsLeast test from index → IsLeast test from other → index ≡ other
-least-once test from index other one two = choose (nat_lt index other) (nat_lt other index) refl refl
-  where
-    choose : (less more : Bool) → nat_lt index other ≡ less → nat_lt other index ≡ more → index ≡ other
-    choose true more e f = absurd (not-less test from index other one two (grind (arith, nat_tests)))
-    choose false true e f = absurd (not-less test from other index two one (grind (arith, nat_tests)))
-    choose false false e f = grind (arith, nat_tests)
+least-once test from index other one two = elim (cases_order index other) [
+  | inl same ↦ same
+  | inr (inl less) ↦ absurd (not-less test from index other one two less)
+  | inr (inr more) ↦ absurd (not-less test from other index two one more)
+]
 
 -- why it rests, by the same tests in the same order
 why : (late met : Bool) → Option Stop → MotionEnd → MotionEnd
@@ -60,79 +59,57 @@ module _ {S : Type 0} (took : S → Output → S → Type 0) (old : SessionValue
       let a = first.travelled in
       let b = second.travelled in
       let index = least-once _ old.index new.index last.index a.rest b.rest in
-      let rest = subst (λ n. RestsBy old motion old.index n first.why) index a.why_is in
-      let why_is : first.why ≡ second.why
-      = rests-why old motion old.index last.index first.why rest
-      ∙ sym (rests-why old motion old.index last.index second.why b.why_is) in search (rules, arith)
+      let rest = rests-why old motion old.index last.index first.why (rw index at a.why_is) in
+      let why_is = rest ∙ sym (rests-why old motion old.index last.index second.why b.why_is) in search (rules, arith)
 
 near-and-far : (old : SessionValue) (count oldest : ℕ) (new last : SessionValue) → IsBack old count new → IsTooOld old count oldest last → ⊥
-near-and-far old count oldest new last near far = choose far.older
-  where
-    choose : (old.index < count) ⊎ (old.index - count < oldest_index old.furthest) → ⊥
-    choose (inl less) = let enough = near.enough in omega (arith, enough, less)
-    choose (inr less) = let kept = near.kept in omega (arith, kept, less)
+near-and-far old count oldest new last near far =
+    let enough = near.enough in let kept = near.kept in let older = far.older in grind arith
 
-back-once : (old : SessionValue) (count : ℕ) (one other : Answer) (new last : SessionValue) → AnswersBack old count one new
-    → AnswersBack old count other last → Same one other new last
-back-once old count (answers.Moved endings.Back) (answers.Moved endings.Back) new last a b = (refl, a.session ∙ sym b.session)
-back-once old count (answers.Moved endings.Back) (answers.Refused (refusals.TooFarBack oldest)) new last a b =
-    absurd (near-and-far old count oldest new last a b)
-back-once old count (answers.Moved endings.Back) other new last a b = absurd b
-back-once old count (answers.Refused (refusals.TooFarBack oldest)) (answers.Moved endings.Back) new last a b =
-    absurd (near-and-far old count oldest last new b a)
-back-once old count (answers.Refused (refusals.TooFarBack oldest)) (answers.Refused (refusals.TooFarBack least)) new last a b =
-    (ap (λ n. answers.Refused (refusals.TooFarBack n)) (a.oldest_is ∙ sym b.oldest_is), a.session ∙ sym b.session)
-back-once old count (answers.Refused (refusals.TooFarBack oldest)) other new last a b = absurd b
-back-once old count one other new last a b = absurd a
+module _ (old new last : SessionValue) where
+  back-once : (count : ℕ) (one other : Answer) → AnswersBack old count one new → AnswersBack old count other last → Same one other new last
+  back-once count (answers.Moved endings.Back) (answers.Moved endings.Back) a b = (refl, a.session ∙ sym b.session)
+  back-once count (answers.Moved endings.Back) (answers.Refused (refusals.TooFarBack oldest)) a b =
+      absurd (near-and-far old count oldest new last a b)
+  back-once count (answers.Refused (refusals.TooFarBack oldest)) (answers.Moved endings.Back) a b =
+      absurd (near-and-far old count oldest last new b a)
+  back-once count (answers.Refused (refusals.TooFarBack oldest)) (answers.Refused (refusals.TooFarBack least)) a b =
+      (ap (λ n. answers.Refused (refusals.TooFarBack n)) (a.oldest_is ∙ sym b.oldest_is), a.session ∙ sym b.session)
+  back-once count one other a b = absurd (assumption)
 
--- an answer and a session that are both said outright
-outright : (one other : Answer) (new last : SessionValue) (answer : Answer) (session : SessionValue) → (one ≡ answer) × (new ≡ session)
-    → (other ≡ answer) × (last ≡ session) → Same one other new last
-outright one other new last answer session a b = (a.0 ∙ sym b.0, a.1 ∙ sym b.1)
+  return-once : (kept : Option ℕ) (one other : Answer) → AnswersReturn old kept one new → AnswersReturn old kept other last
+      → Same one other new last
+  return-once (Some index) one other a b = (a.0 ∙ sym b.0, a.1 ∙ sym b.1)
+  return-once None one other a b = (a.0 ∙ sym b.0, a.1 ∙ sym b.1)
 
-return-once : (old : SessionValue) (kept : Option ℕ) (one other : Answer) (new last : SessionValue) → AnswersReturn old kept one new
-    → AnswersReturn old kept other last → Same one other new last
-return-once old (Some index) one other new last a b = outright one other new last _ _ a b
-return-once old None one other new last a b = outright one other new last _ _ a b
+  set-once : (address : ℕ) (is_set : Bool) (one other : Answer) → SetsBreakpoint old address is_set one new
+      → SetsBreakpoint old address is_set other last → Same one other new last
+  set-once address true one other a b = (a.0 ∙ sym b.0, a.1 ∙ sym b.1)
+  set-once address false answers.Done answers.Done a b = (refl, a.1 ∙ sym b.1)
+  set-once address false answers.Done (answers.Refused refusals.NoRoom) a b = absurd (omega (arith, a.0, b.0))
+  set-once address false (answers.Refused refusals.NoRoom) answers.Done a b = absurd (omega (arith, a.0, b.0))
+  set-once address false (answers.Refused refusals.NoRoom) (answers.Refused refusals.NoRoom) a b = (refl, a.1 ∙ sym b.1)
+  set-once address false one other a b = absurd (assumption)
 
-set-once : (old : SessionValue) (address : ℕ) (is_set : Bool) (one other : Answer) (new last : SessionValue)
-    → SetsBreakpoint old address is_set one new → SetsBreakpoint old address is_set other last → Same one other new last
-set-once old address true one other new last a b = outright one other new last _ _ a b
-set-once old address false answers.Done answers.Done new last a b = (refl, a.1 ∙ sym b.1)
-set-once old address false answers.Done (answers.Refused refusals.NoRoom) new last a b =
-    let room = a.0 in let full = b.0 in absurd (omega (arith, room, full))
-set-once old address false answers.Done other new last a b = absurd b
-set-once old address false (answers.Refused refusals.NoRoom) answers.Done new last a b =
-    let room = b.0 in let full = a.0 in absurd (omega (arith, room, full))
-set-once old address false (answers.Refused refusals.NoRoom) (answers.Refused refusals.NoRoom) new last a b = (refl, a.1 ∙ sym b.1)
-set-once old address false (answers.Refused refusals.NoRoom) other new last a b = absurd b
-set-once old address false one other new last a b = absurd a
-
-stays-once : (old : SessionValue) (command : Command) (one other : Answer) (new last : SessionValue) → Stays old command one new
-    → Stays old command other last → Same one other new last
-stays-once old (commands.Back count) one other new last a b = back-once old count one other new last a b
-stays-once old (commands.Return slot) one other new last a b =
-    return-once old (kept_at old (slot_index slot)) one other new last a b
-stays-once old (commands.Keep slot) one other new last a b = outright one other new last _ _ a b
-stays-once old (commands.Break at) one other new last a b = set-once old at (has_breakpoint old at) one other new last a b
-stays-once old (commands.Unbreak at) one other new last a b = outright one other new last _ _ a b
-stays-once old commands.Regs one other new last a b = outright one other new last _ _ a b
-stays-once old (commands.Mem at count) one other new last a b = outright one other new last _ _ a b
-stays-once old (commands.Dis at count) one other new last a b = outright one other new last _ _ a b
-stays-once old (commands.History count) one other new last a b = outright one other new last _ _ a b
-stays-once old rest one other new last a b = absurd a
+  stays-once : (command : Command) (one other : Answer) → Stays old command one new → Stays old command other last → Same one other new last
+  stays-once (commands.Back count) one other a b = back-once count one other a b
+  stays-once (commands.Return slot) one other a b = return-once (kept_at old (slot_index slot)) one other a b
+  stays-once (commands.Break at) one other a b = set-once at (has_breakpoint old at) one other a b
+  stays-once (commands.Step count) one other a b = absurd a
+  stays-once commands.Continue one other a b = absurd a
+  stays-once (commands.Frames count) one other a b = absurd a
+  stays-once _ one other a b = (a.0 ∙ sym b.0, a.1 ∙ sym b.1)
 
 module _ {S : Type 0} (took : S → Output → S → Type 0) (old : SessionValue) (sink : S) where
   performed-once : (command : Command) (found : Option Motion) (one other : Answer) (new last : SessionValue) (later end : S)
       → IsCommandPerformed took old command found sink one new later → IsCommandPerformed took old command found sink other last end
       → Same one other new last
   performed-once command (Some motion) one other new last later end a b = moved-once took old sink motion one other new last later end a b
-  performed-once command None one other new last later end a b = stays-once old command one other new last a.0 b.0
+  performed-once command None one other new last later end a b = stays-once old new last command one other a.0 b.0
 
   obeyed-once : (asked : Result Command NoCommand) (one other : Answer) (new last : SessionValue) (later end : S)
       → IsCommandObeyed took old asked sink one new later → IsCommandObeyed took old asked sink other last end → Same one other new last
-  obeyed-once (Ok command) one other new last later end a b =
-      performed-once command (motion_of command) one other new last later end a b
+  obeyed-once (Ok command) one other new last later end a b = performed-once command (motion_of command) one other new last later end a b
   obeyed-once (Err none) one other new last later end a b = (a.0 ∙ sym b.0, a.1 ∙ sym b.1)
 
 -- ---- lines
@@ -146,5 +123,4 @@ pub tells_one_thing : TellsOneThing
 tells_one_thing [] old text other new last a b = (a.0 ∙ sym b.0, a.1 ∙ sym b.1)
 tells_one_thing (line ∷ more) old text other new last a b =
     let first = told-once old (command_of line) a.text_before b.text_before a.between b.between a.before b.before in
-    let rest = subst (λ (s : SessionValue). TellsAll more s a.text_after new) first.1 a.after in
-    let then = tells_one_thing more b.between a.text_after b.text_after new last rest b.after in search (rules, arith)
+    let then = tells_one_thing more b.between a.text_after b.text_after new last (rw first.1 at a.after) b.after in search (rules, arith)

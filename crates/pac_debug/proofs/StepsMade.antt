@@ -1,12 +1,12 @@
 -- The steps that a session's board makes: no more than lead to the furthest index, and those that lines have it make once more.
-use Rattle.pac_debug.proofs.Common.{Answer, AnswersBack, AnswersReturn, AreSeen, BoardView, Bool, Command, CommandFault, Due, Err, Giving}
+use Rattle.pac_debug.proofs.Common.{Answer, AnswersReturn, AreSeen, BoardView, Bool, Command, CommandFault, Due, Err, Giving}
 use Rattle.pac_debug.proofs.Common.{IsCommandObeyed, IsCommandPerformed, IsHeldUpAt, IsSeen, IsSession, LeavesEach, LeavesLine, LineAnswer}
 use Rattle.pac_debug.proofs.Common.{LinesMakeNoMore, List, MakesNoMore, Moment, Motion, NoCommand, None, Ok, Option, Outcome, RefusedAt}
 use Rattle.pac_debug.proofs.Common.{Result, Scene, SessionValue, SessionsMakeNoMore, SetsBreakpoint, Some, Stays, TellsAll, TellsOfCommand}
 use Rattle.pac_debug.proofs.Common.{WatchesSession, [], all-seen-later, all_steps_again, ap, arith, cases_lt, command_of, false, get_or}
-use Rattle.pac_debug.proofs.Common.{goes_at, has_breakpoint, has_met, moved_to, nat_lt, not, open-up-to, rests, rules, run-ends, seen-set}
-use Rattle.pac_debug.proofs.Common.{session_with_slot, session_without_due, slot_index, steps_again, suc, takes_all, true, whole-at-end}
-use Rattle.pac_debug.proofs.Common.{whole_run, zero, ℕ, ◌++◌, ◌+◌, ◌<◌, ◌||◌, ◌∙◌, ◌∷◌, ◌≡◌, ◌≤◌}
+use Rattle.pac_debug.proofs.Common.{goes_at, has_breakpoint, has_met, moved_to, nat_lt, not-false, open-up-to, or_parts, rests, rules}
+use Rattle.pac_debug.proofs.Common.{run-ends, seen-set, session_with_slot, session_without_due, slot_index, steps_again, suc, takes_all}
+use Rattle.pac_debug.proofs.Common.{true, whole-at-end, whole_run, zero, ℕ, ◌++◌, ◌+◌, ◌<◌, ◌∙◌, ◌∷◌, ◌≡◌, ◌≤◌}
 use mathlib.Core.Logic.{inl, inr}
 use Rattle.pac_debug_text.specs.declared.command.Command.TheVariants as commands
 use Rattle.pac_debug.specs.declared.line.CommandFault.TheVariants as faults
@@ -48,28 +48,20 @@ same again old new stands is = still again old new old.breakpoints old.due old.r
 
 -- ---- onwards
 
-going : (met goes : Bool) → (met || not goes) ≡ false → goes ≡ true
-going met goes e = search rules
-
 -- where a motion doesn't rest the run goes on
 unrested : (s : SessionValue) (motion : Motion) (from index : ℕ) → rests s motion from index ≡ false → goes_at s.setting index ≡ true
-unrested s motion from index e = going (has_met s motion from index) (goes_at s.setting index) e
+unrested s motion from index e = not-false _ (or_parts (has_met s motion from index) _ e).1
 
 module _ (again : ℕ → ℕ) (old new : SessionValue) (due : Due) (replayed : ℕ) (stands : Stands old) (after : old.index ≤ new.index)
     (is : new ≡ record (moved_to old new.index) { due = due; replayed = replayed })
     (goes : (earlier : ℕ) → old.index ≤ earlier → earlier < new.index → goes_at old.setting earlier ≡ true) where
-  goes-before : (earlier : ℕ) → earlier < new.furthest → (b : Bool) → nat_lt earlier old.furthest ≡ b
-      → goes_at old.setting earlier ≡ true
+  goes-before : (earlier : ℕ) → earlier < new.furthest → (b : Bool) → nat_lt earlier old.furthest ≡ b → goes_at old.setting earlier ≡ true
   goes-before earlier less b e = search rules
 
   onwards : Makes again old new
   onwards = grind (arith, all-seen-later, goes-before)
 
 -- ---- commands that don't move on
-
-went-back : (old : SessionValue) (count : ℕ) (answer : Answer) (new : SessionValue) → Stands old → AnswersBack old count answer new
-    → Makes (λ furthest. count + 4095) old new
-went-back old count answer new stands went = search rules
 
 -- what a slot keeps was seen
 seen-at : (furthest : ℕ) (slots : List (Option ℕ)) (place : ℕ) → AreSeen furthest slots → IsSeen furthest (get_or slots place None)
@@ -90,16 +82,15 @@ set-there again old address is_set answer new stands done = search rules
 
 stays : (old : SessionValue) (command : Command) (answer : Answer) (new : SessionValue) → Stands old → Stays old command answer new
     → Makes (λ furthest. steps_again furthest (Some (Ok command))) old new
-stays old (commands.Back count) answer new stands done = went-back old count answer new stands done
+stays old (commands.Back count) answer new stands done = search rules
 stays old (commands.Return slot) answer new stands done = grind (arith, returned, seen-at)
 stays old (commands.Keep slot) answer new stands done = kept-there old new (slot_index slot) stands done.1
 stays old (commands.Break at) answer new stands done = set-there _ old at (has_breakpoint old at) answer new stands done
 stays old (commands.Unbreak at) answer new stands done = still _ old new _ _ _ stands done.1
-stays old commands.Regs answer new stands done = same _ old new stands done.1
-stays old (commands.Mem at count) answer new stands done = same _ old new stands done.1
-stays old (commands.Dis at count) answer new stands done = same _ old new stands done.1
-stays old (commands.History count) answer new stands done = same _ old new stands done.1
-stays old other answer new stands done = absurd done
+stays old (commands.Step count) answer new stands done = absurd done
+stays old commands.Continue answer new stands done = absurd done
+stays old (commands.Frames count) answer new stands done = absurd done
+stays old _ answer new stands done = same _ old new stands done.1
 
 -- ---- a line
 
@@ -151,20 +142,16 @@ lines-make (line ∷ lines) (answer ∷ answers) old (text ∷ texts) new stands
     let rest = lines-make lines answers leaves.between texts new first.stands leaves.after in grind (arith, makes-on)
 lines-make lines answers old texts new stands leaves = absurd leaves
 
-unended : (goes : Bool) → not goes ≡ false → goes ≡ true
-unended goes e = search rules
-
 -- up to the furthest index the trace goes on
 within-trace : (s : SessionValue) → Stands s → s.furthest ≤ (whole_run s.setting).now.steps
 within-trace s stands =
     let end = run-ends s.setting s.furthest in
     let goes : (earlier : ℕ) → earlier < end.index → goes_at s.setting earlier ≡ true = λ earlier less. elim (cases_lt earlier s.furthest) [
       | inl early ↦ stands.goes earlier early
-      | inr late ↦ unended (goes_at s.setting earlier) (end.least.none_before earlier late less)
+      | inr late ↦ not-false (goes_at s.setting earlier) (end.least.none_before earlier late less)
     ] in
     let whole = whole-at-end s.setting end.index goes end.least.here in
-    let steps = ap (λ (now : Moment BoardView). now.steps) whole ∙ (open-up-to s.setting end.index goes).steps in
-    omega (arith, steps)
+    let steps = ap (λ (now : Moment BoardView). now.steps) whole ∙ (open-up-to s.setting end.index goes).steps in omega (arith, steps)
 
 -- so it is in all
 no-more : (lines : List (List ℕ)) (old new : SessionValue) → IsSession old → Makes (λ furthest. all_steps_again furthest lines) old new
@@ -216,12 +203,11 @@ module _ {S : Type 0} (to : Giving S) where
 
   module _ {W : Type 0} (wrote : W → List ℕ → W → Type 0) (balked : W → W → Type 0) where
     watched-makes : (lines : List (List ℕ)) (old : Scene S W) (result : Result Outcome CommandFault) (new : Scene S W) → Stands old.session
-        → WatchesSession to wrote balked lines old result new
-        → Makes (λ furthest. all_steps_again furthest lines) old.session new.session
+        → WatchesSession to wrote balked lines old result new → Makes (λ furthest. all_steps_again furthest lines) old.session new.session
     watched-makes lines old (Ok outcome) new stands watched =
         let first = tells-make lines old.session watched.told watched.between stands watched.lines in
         let rest = onwards (λ furthest. 0) watched.between new.session _ _ first.stands watched.rest.after watched.session
-        (λ earlier from less. grind (arith, unended)) in
+        (λ earlier from less. grind (arith, not-false)) in
         grind (arith, makes-on, makes-within)
     watched-makes lines old (Err faults.Refused) new stands watched =
         grind (arith, again-joined, makes-on, makes-within, refused-makes, tells-make, told)
@@ -231,5 +217,4 @@ module _ {S : Type 0} (to : Giving S) where
 pub sessions-make-no-more : {S W : Type 0} (to : Giving S) (wrote : W → List ℕ → W → Type 0) (balked : W → W → Type 0)
     → SessionsMakeNoMore to wrote balked
 sessions-make-no-more to wrote balked lines old result new facts watched =
-    no-more lines old.session new.session facts
-    (watched-makes to wrote balked lines old result new (standing old.session facts) watched)
+    no-more lines old.session new.session facts (watched-makes to wrote balked lines old result new (standing old.session facts) watched)

@@ -1,9 +1,9 @@
 -- What lines tell doesn't hang on the sink: it is said of the run alone.
-use Rattle.pac_debug.proofs.Common.{All-cons, Answer, Asks, Command, Err, Giving, HasMoved, IsCommandDone, IsCommandObeyed}
-use Rattle.pac_debug.proofs.Common.{IsCommandPerformed, List, Motion, NoCommand, None, ObeysLines, Ok, Option, Output, RefusedAt, RefusedOf}
-use Rattle.pac_debug.proofs.Common.{Refuses, Result, Scene, SessionValue, Some, Takes, TellsAll, TellsOfCommand, TookAll, TookTold}
-use Rattle.pac_debug.proofs.Common.{WordsTell, WriteFault, [], answer_text, ap, arith, command_of, nothing_due, refl, rules, takes-joined}
-use Rattle.pac_debug.proofs.Common.{takes_all, true, ℕ, ◌++◌, ◌∷◌, ◌≡◌}
+use Rattle.pac_debug.proofs.Common.{All-cons, Answer, Asks, Command, CommandFault, Err, Giving, HasMoved, IsCommandDone, IsCommandObeyed}
+use Rattle.pac_debug.proofs.Common.{IsCommandPerformed, List, Motion, NoCommand, None, ObeysLines, Ok, Option, Output, RefusedOf, Refuses}
+use Rattle.pac_debug.proofs.Common.{Result, Scene, SessionValue, Some, Takes, TellsAll, TellsOfCommand, TookAll, TookTold, WordsTell}
+use Rattle.pac_debug.proofs.Common.{WriteFault, [], answer_text, ap, arith, command_of, nothing_due, refl, rules, takes-joined, takes_all}
+use Rattle.pac_debug.proofs.Common.{true, ℕ, ◌++◌, ◌∷◌, ◌≡◌}
 use mathlib.Core.Logic.{inl, inr}
 use Rattle.pac_debug.specs.declared.line.CommandFault.TheVariants as faults
 
@@ -33,9 +33,8 @@ module _ {S : Type 0} (took : S → Output → S → Type 0) where
 
 -- ---- texts in turn
 
-pub told-then : (line : List ℕ) (more : List (List ℕ)) (old mid new : SessionValue) (one other : List ℕ) →
-    TellsOfCommand (command_of line) old one mid
-    → TellsAll more mid other new → TellsAll (line ∷ more) old (one ++ other) new
+pub told-then : (line : List ℕ) (more : List (List ℕ)) (old mid new : SessionValue) (one other : List ℕ)
+    → TellsOfCommand (command_of line) old one mid → TellsAll more mid other new → TellsAll (line ∷ more) old (one ++ other) new
 told-then line more old mid new one other first rest = search rules
 
 module _ {S W : Type 0} (to : Giving S) (wrote : W → List ℕ → W → Type 0) (balked : W → W → Type 0) where
@@ -50,8 +49,7 @@ module _ {S W : Type 0} (to : Giving S) (wrote : W → List ℕ → W → Type 0
   line-told done None old new skipped = search rules
   line-told done (Some asked) old new answered =
       let text_is = answer_text new.session answered.answer in
-      let tells_is = told to.took old.session asked old.sink answered.answer new.session new.sink answered.did in
-      grind (arith, told)
+      let tells_is = told to.took old.session asked old.sink answered.answer new.session new.sink answered.did in grind (arith, told)
 
   -- all lines were answered
   pub record LinesTold (lines : List (List ℕ)) (old new : Scene S W) : Type 0 where
@@ -68,89 +66,25 @@ module _ {S W : Type 0} (to : Giving S) (wrote : W → List ℕ → W → Type 0
       let rest = lines-told more done mid new obeyed.after in
       let text_is = first.text ++ rest.text in
       let tells_is = told-then line more old.session mid.session new.session first.text rest.text first.tells rest.tells in
-      let takes_is = takes-joined first.takes rest.words.takes in
-      grind (arith, All-cons, takes-joined, told-then)
+      let takes_is = takes-joined first.takes rest.words.takes in grind (arith, All-cons, takes-joined, told-then)
 
-  -- at one of them the sink refused
-  pub record LinesRefused (lines : List (List ℕ)) (old new : Scene S W) : Type 0 where
-    pub before : List (List ℕ)
-    pub after : List (List ℕ)
-    pub parts : lines ≡ before ++ after
-    pub mid : Scene S W
-    pub obeyed : ObeysLines to wrote balked before old (Ok tt) mid
-    pub refusal : RefusedAt to after mid.session mid.sink new.session new.sink
-    pub text : new.text ≡ mid.text
-
-  pub line-refused : (found : Option (Result Command NoCommand)) (old new : Scene S W)
-      → Asks {A = Unit {0}} to wrote balked found old (Err faults.Refused) new
-      → RefusedOf to found old.session old.sink new.session new.sink × (new.text ≡ old.text)
-  line-refused found old new skipped = search rules
-
-  pub lines-refused : (lines : List (List ℕ)) (old new : Scene S W)
-      → ObeysLines to wrote balked lines old (Err faults.Refused) new → LinesRefused lines old new
-  lines-refused [] old new obeyed = absurd obeyed
-  lines-refused (line ∷ more) old new (inl here) =
-      let refusal = line-refused (command_of line) old new here in
-      record {
-        before = [];
-        after = line ∷ more;
-        parts = refl;
-        mid = old;
-        obeyed = refl;
-        refusal = refusal.0;
-        text = refusal.1;
-      }
-  lines-refused (line ∷ more) old new (inr later) =
-      let rest = lines-refused more later.between new later.after in
-      record {
-        before = line ∷ rest.before;
-        after = rest.after;
-        parts = ap (λ ls. line ∷ ls) rest.parts;
-        mid = rest.mid;
-        obeyed = record { between = later.between; before = later.before; after = rest.obeyed };
-        refusal = rest.refusal;
-        text = rest.text;
-      }
-
-  -- the text of one of them couldn't be written
-  pub record LineUntold (found : Option (Result Command NoCommand)) (old : Scene S W) (fault : WriteFault) (new : Scene S W) : Type 0 where
-    pub text : List ℕ
-    pub tells : TellsOfCommand found old.session text new.session
-    pub due : new.session.due ≡ nothing_due
-    pub refuses : Refuses wrote balked old.text text fault new.text
-
-  pub record LinesUntold (lines : List (List ℕ)) (old : Scene S W) (fault : WriteFault) (new : Scene S W) : Type 0 where
+  -- one of them wasn't answered
+  pub record LinesStop (lines : List (List ℕ)) (old : Scene S W) (fault : CommandFault) (new : Scene S W) : Type 0 where
     pub before : List (List ℕ)
     pub line : List ℕ
     pub after : List (List ℕ)
     pub parts : lines ≡ before ++ line ∷ after
     pub mid : Scene S W
     pub obeyed : ObeysLines to wrote balked before old (Ok tt) mid
-    pub here : LineUntold (command_of line) mid fault new
+    pub here : Asks {A = Unit {0}} to wrote balked (command_of line) mid (Err fault) new
 
-  pub line-untold : (found : Option (Result Command NoCommand)) (fault : WriteFault) (old new : Scene S W)
-      → Asks {A = Unit {0}} to wrote balked found old (Err (faults.Text fault)) new → LineUntold found old fault new
-  line-untold None fault old new skipped = absurd skipped
-  line-untold (Some asked) fault old new answered =
-      let did = answered.did in
-      let text_is = answer_text new.session answered.answer in
-      let tells_is = told to.took old.session asked old.sink answered.answer new.session new.sink did in
-      grind (arith, told)
-
-  pub lines-untold : (lines : List (List ℕ)) (fault : WriteFault) (old new : Scene S W)
-      → ObeysLines to wrote balked lines old (Err (faults.Text fault)) new → LinesUntold lines old fault new
-  lines-untold [] fault old new obeyed = absurd obeyed
-  lines-untold (line ∷ more) fault old new (inl here) = record {
-    before = [];
-    line = line;
-    after = more;
-    parts = refl;
-    mid = old;
-    obeyed = refl;
-    here = line-untold (command_of line) fault old new here;
-  }
-  lines-untold (line ∷ more) fault old new (inr later) =
-      let rest = lines-untold more fault later.between new later.after in
+  pub lines-stop : (lines : List (List ℕ)) (fault : CommandFault) (old new : Scene S W)
+      → ObeysLines to wrote balked lines old (Err fault) new → LinesStop lines old fault new
+  lines-stop [] fault old new obeyed = absurd obeyed
+  lines-stop (line ∷ more) fault old new (inl here) =
+      record { before = []; line = line; after = more; parts = refl; mid = old; obeyed = refl; here = here }
+  lines-stop (line ∷ more) fault old new (inr later) =
+      let rest = lines-stop more fault later.between new later.after in
       record {
         before = line ∷ rest.before;
         line = rest.line;
@@ -160,3 +94,24 @@ module _ {S W : Type 0} (to : Giving S) (wrote : W → List ℕ → W → Type 0
         obeyed = record { between = later.between; before = later.before; after = rest.obeyed };
         here = rest.here;
       }
+
+  -- the sink refused at it
+  pub line-refused : (found : Option (Result Command NoCommand)) (old new : Scene S W)
+      → Asks {A = Unit {0}} to wrote balked found old (Err faults.Refused) new
+      → RefusedOf to found old.session old.sink new.session new.sink × (new.text ≡ old.text)
+  line-refused found old new skipped = search rules
+
+  -- its text couldn't be written
+  pub record LineUntold (found : Option (Result Command NoCommand)) (old : Scene S W) (fault : WriteFault) (new : Scene S W) : Type 0 where
+    pub text : List ℕ
+    pub tells : TellsOfCommand found old.session text new.session
+    pub due : new.session.due ≡ nothing_due
+    pub refuses : Refuses wrote balked old.text text fault new.text
+
+  pub line-untold : (found : Option (Result Command NoCommand)) (fault : WriteFault) (old new : Scene S W)
+      → Asks {A = Unit {0}} to wrote balked found old (Err (faults.Text fault)) new → LineUntold found old fault new
+  line-untold None fault old new skipped = absurd skipped
+  line-untold (Some asked) fault old new answered =
+      let did = answered.did in
+      let text_is = answer_text new.session answered.answer in
+      let tells_is = told to.took old.session asked old.sink answered.answer new.session new.sink did in grind (arith, told)

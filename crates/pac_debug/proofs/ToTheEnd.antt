@@ -1,13 +1,13 @@
 -- A whole session: its lines, and then the run's end.
 use Rattle.pac_debug.proofs.Common.{CommandFault, Counted, Err, GaveAll, Giving, IsFinishRefused, IsFinished, IsFurther, IsOutcome}
 use Rattle.pac_debug.proofs.Common.{IsSessionOfferRefused, IsSessionWatched, IsWatchRefused, LinesGive, List, ObeysLines, Ok, Outcome}
-use Rattle.pac_debug.proofs.Common.{Output, Scene, SessionValue, Setting, TookTold, WatchesSession, [], append-nil, append_assoc, arith}
-use Rattle.pac_debug.proofs.Common.{outputs_from, outputs_to_give, outputs_until, rules, session_at_command, session_due_outputs, subst}
-use Rattle.pac_debug.proofs.Common.{sym, took-both, ℕ, ◌++◌, ◌∙◌, ◌≡◌, ◌⊎◌}
+use Rattle.pac_debug.proofs.Common.{Output, RefusedAt, Scene, SessionValue, Setting, TookTold, WatchesSession, [], append-nil, append_assoc}
+use Rattle.pac_debug.proofs.Common.{arith, command_of, outputs_from, outputs_to_give, outputs_until, rules, session_at_command}
+use Rattle.pac_debug.proofs.Common.{session_due_outputs, subst, sym, took-both, ℕ, ◌++◌, ◌∙◌, ◌∷◌, ◌≡◌, ◌⊎◌}
 use mathlib.Core.List.{IsPrefix}
 use Rattle.pac_debug.specs.declared.line.CommandFault.TheVariants as faults
 use Rattle.pac_debug.proofs.Giving.{all-to-give, some-after, finish-given, lines-given}
-use Rattle.pac_debug.proofs.Telling.{lines-told, lines-refused, lines-untold}
+use Rattle.pac_debug.proofs.Telling.{lines-told, lines-stop, line-refused, line-untold}
 
 -- a run's outcome is that of its setting
 outcome-of : (s other : SessionValue) (outcome : Outcome) → s.setting ≡ other.setting → IsOutcome s outcome → IsOutcome other outcome
@@ -70,14 +70,15 @@ module _ {S W : Type 0} (to : Giving S) (wrote : W → List ℕ → W → Type 0
       → LinesGive {A = Unit {0}} to old.session old.sink (Err fault) mid.session mid.sink
       → WatchesSession to wrote balked lines old (Err fault) mid
   ended-early faults.Refused obeyed gave =
-      let halt = lines-refused to wrote balked lines old mid obeyed in
+      let halt = lines-stop to wrote balked lines faults.Refused old mid obeyed in
+      let refused = line-refused to wrote balked (command_of halt.line) halt.mid mid halt.here in
+      let refusal : RefusedAt to (halt.line ∷ halt.after) halt.mid.session halt.mid.sink mid.session mid.sink = refused.0 in
       let told = lines-told to wrote balked halt.before tt old halt.mid halt.obeyed in
-      let text_is = subst (λ (file : Counted W). TookTold wrote halt.before old.text told.text file) (sym halt.text) told.words in
+      let text_is = subst (λ (file : Counted W). TookTold wrote halt.before old.text told.text file) (sym refused.1) told.words in
       let gave_is = lines-given to wrote balked halt.before (Ok tt) old halt.mid halt.obeyed in
-      let among_is = among old.session mid.session gave.cut.taken gave.further gave.cut.parts in
-      search (rules, arith, among, lines-given)
+      let among_is = among old.session mid.session gave.cut.taken gave.further gave.cut.parts in search (rules, arith)
   ended-early (faults.Text fault) obeyed gave =
-      let halt = lines-untold to wrote balked lines fault old mid obeyed in
+      let halt = lines-stop to wrote balked lines (faults.Text fault) old mid obeyed in
+      let untold = line-untold to wrote balked (command_of halt.line) fault halt.mid mid halt.here in
       let told = lines-told to wrote balked halt.before tt old halt.mid halt.obeyed in
-      let among_is = taken-among old.session mid.session gave.taken gave.further gave.parts in
-      search (rules, arith, among, taken-among)
+      let among_is = taken-among old.session mid.session gave.taken gave.further gave.parts in search (rules, arith)

@@ -5,9 +5,8 @@ use Rattle.pac_debug_session.proofs.Common.{◌*◌, ◌+◌, ◌-◌, ◌<◌, 
 
 -- ---- the checkpoint of a place
 
-pub checkpoint-there : (setting : Setting) (taken : ℕ) (ks : List SessionSnapshot) (place : ℕ) (k : SessionSnapshot) →
-    AreCheckpoints setting taken ks
-    → slice_get ks place ≡ Some k → checkpoint_count ≤ taken + place
+pub checkpoint-there : (setting : Setting) (taken : ℕ) (ks : List SessionSnapshot) (place : ℕ) (k : SessionSnapshot)
+    → AreCheckpoints setting taken ks → slice_get ks place ≡ Some k → checkpoint_count ≤ taken + place
     → IsKeptAt setting (checkpoint_steps * (taken + place - checkpoint_count)) k
 checkpoint-there setting taken [] place k so_far is enough = absurd (cc)
 checkpoint-there setting taken (first ∷ ks) zero k so_far is enough = search rules

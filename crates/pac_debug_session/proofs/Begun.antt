@@ -11,8 +11,7 @@ use Rattle.pac_debug_session.proofs.Steppings.{with_board}
 none-yet : (setting : Setting) (taken : ℕ) (ks : List SessionSnapshot) → taken + length ks ≤ checkpoint_count →
     AreCheckpoints setting taken ks
 none-yet setting taken [] few = tt
-none-yet setting taken (first ∷ more) few =
-    (λ enough. absurd (omega arith), none-yet setting (taken + 1) more (omega arith))
+none-yet setting taken (first ∷ more) few = (λ enough. absurd (omega arith), none-yet setting (taken + 1) more (omega arith))
 
 all-empty : (setting : Setting) (slots : List SlotContents) → AreEmpty slots → AreSlots setting slots
 all-empty setting [] empty = tt

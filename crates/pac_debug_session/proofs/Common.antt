@@ -28,7 +28,7 @@ pub use Rattle.pac_debug_session.specs.Motions.{HasTravelled, IsBack, IsDone, Is
 pub use Rattle.pac_debug_session.specs.Motions.{checkpoint_steps, has_met, is_done, motion_ending, moved_to, oldest_index, rests}
 pub use Rattle.pac_debug_session.specs.Motions.{session_with_slot}
 pub use Rattle.pac_debug_session.specs.MotionsLaws.{IsFinishRefused, IsOutcome, IsTravelRefused}
-pub use Rattle.pac_debug_session.specs.MotionsProofs.{IsFinished, ReturnsTo, replayed_to, stop_of}
+pub use Rattle.pac_debug_session.specs.MotionsProofs.{IsFinished, replayed_to, stop_of}
 pub use Rattle.pac_debug_session.specs.Past.{past_steps, told_at}
 pub use Rattle.pac_debug_session.specs.Playing.{course_of}
 pub use Rattle.pac_debug_session.specs.Running.{IsLeast, Setting, blanks_at, goes_at, is_late, limit, next_at, next_from, now_at}
@@ -47,13 +47,13 @@ pub use Rattle.pac_debug_session.specs.declared.kept.SlotContents.{SlotContents}
 pub use Rattle.pac_debug_session.specs.declared.motion.Motion.{Motion}
 pub use Rattle.pac_debug_session.specs.declared.motion.Motion.TheVariants.{Continue, Frames, Steps, ToEnd}
 pub use Rattle.pac_debug_session.specs.declared.motion.MotionEnd.{MotionEnd}
-pub use Rattle.pac_debug_session.specs.declared.motion.MotionEnd.TheVariants.{AtBreakpoint, AtEnd, AtFrame, AtStep, AtStop}
-pub use Rattle.pac_debug_session.specs.declared.session.Empty.{Empty}
+pub use Rattle.pac_debug_session.specs.declared.motion.MotionEnd.TheVariants.{AtStop}
 pub use Rattle.pac_debug_session.specs.declared.session.Session.TheInside.{Inside}
 pub use Rattle.std.proofs.Common.{[], append_assoc, drop, filter, get_or, is_none, length, map, max, nat_lt, not, replicate, set, slice_get}
-pub use Rattle.std.proofs.Common.{slice_index, slice_set, ◌%◌, ◌&&◌, ◌==◌, ◌^◌, ◌||◌, ◌∷◌}
+pub use Rattle.std.proofs.Common.{slice_index, slice_set, ◌%◌, ◌==◌, ◌^◌, ◌||◌, ◌∷◌}
 pub use Rattle.std.proofs.Math.Seq.{drop-append_seam, drop-length}
-pub use Rattle.std.proofs.lemmas.Bool.{and_parts, and_right, cases_lt, or_parts}
+pub use Rattle.std.proofs.lemmas.Bool.{and_parts, and_right, cases_lt, cases_order, not-false, not-true, not_from_true, or_from, or_parts}
+pub use Rattle.std.proofs.lemmas.Bool.{or_right}
 pub use Rattle.std.proofs.lemmas.Grind.{common_steps}
 pub use Rattle.std.proofs.lemmas.List.{append-nil, get_or-map, get_or-set_other, get_or-set_same, length-append, length-drop, length-set}
 pub use Rattle.std.proofs.lemmas.List.{map-set}

@@ -5,8 +5,7 @@ use Rattle.pac_debug_session.proofs.Common.{going-if-counted, going-steps, has_e
 use Rattle.pac_debug_session.proofs.Common.{next_at, next_from, not, not-both, now_at, onward_if, play_of, power_on_board_view, refl, rules}
 use Rattle.pac_debug_session.proofs.Common.{run, runs-end, stop_at, stop_in, stopped-has-ended, suc, sym, total_frames, true, walk-near}
 use Rattle.pac_debug_session.proofs.Common.{walk_after_step, whole_run, zero, ℕ, ◌*◌, ◌+◌, ◌-◌, ◌<◌, ◌∙◌, ◌≡◌, ◌≤◌}
-use Rattle.pac_debug_session.proofs.Indices.{timely}
-use Rattle.pac_debug_session.proofs.Indices.{open-up-to, next-index}
+use Rattle.pac_debug_session.proofs.Indices.{timely, open-up-to, next-index}
 
 -- ---- the least index
 
@@ -59,8 +58,7 @@ module _ (setting : Setting) where
       choose (Ends stop) is here =
           let w = run setting earlier in
           let step = going-steps (next_from setting) (limit setting) w here ∙ ap (walk_after_step w) is in
-          let ended =
-          stopped-has-ended (limit setting) (run setting (suc earlier)) stop (ap (λ (w : Walk BoardView). w.stop) step) in
+          let ended = stopped-has-ended (limit setting) (run setting (suc earlier)) stop (ap (λ (w : Walk BoardView). w.stop) step) in
           let same =
           ended-for-good (next_from setting) (limit setting) start (suc earlier) (last - earlier) (suc last) (omega arith) ended in
           let steps = ap (λ (w : Walk BoardView). w.now.steps) (same ∙ step) in
@@ -70,8 +68,7 @@ module _ (setting : Setting) where
   -- ---- the first index at which it goes no further
 
   onward-stopped : (w : Walk BoardView) (stop : Stop) (met : Option Stop) (late : Bool)
-      → (w.stop ≡ Some stop → stop_in (next_from setting w.now) ≡ Some stop)
-      → (onward_if (next_from setting) w met late).stop ≡ Some stop
+      → (w.stop ≡ Some stop → stop_in (next_from setting w.now) ≡ Some stop) → (onward_if (next_from setting) w met late).stop ≡ Some stop
       → stop_in (next_from setting (onward_if (next_from setting) w met late).now) ≡ Some stop
   onward-stopped w stop met late before e = search rules
 
@@ -114,8 +111,7 @@ module _ (setting : Setting) (index : ℕ) (goes : (earlier : ℕ) → earlier <
   open_yet = (open-up-to setting index goes).open_yet
 
   whole-at : (index : ℕ) → has_ended (limit setting) (run setting index) ≡ true → run setting index ≡ whole_run setting
-  whole-at index ended =
-      (runs-end (by_view setting.set) (play_of setting.script) (power_on_board_view setting.switches) index).1 ended
+  whole-at index ended = (runs-end (by_view setting.set) (play_of setting.script) (power_on_board_view setting.switches) index).1 ended
 
   pub whole-late : is_late setting index ≡ true → IsWhole setting index None
   whole-late late =

@@ -1,9 +1,8 @@
 -- What a run gives between its indices, piece by piece.
-use Rattle.pac_debug_session.proofs.Common.{BoardView, Bool, Setting, Walk, [], ap, append-nil, append_assoc, arith, by_view, drop}
-use Rattle.pac_debug_session.proofs.Common.{drop-append_seam, drop-length, ended-for-good, false, frame_steps, length, limit, nat_le}
-use Rattle.pac_debug_session.proofs.Common.{nat_tests, next_from, outputs_between, outputs_from, play_of, power_on_board_view, refl, run}
-use Rattle.pac_debug_session.proofs.Common.{runs-are-joined, runs-end, subst, sym, total_frames, true, whole_run, ℕ, ◌*◌, ◌++◌, ◌+◌, ◌-◌}
-use Rattle.pac_debug_session.proofs.Common.{◌∙◌, ◌≡◌, ◌≤◌}
+use Rattle.pac_debug_session.proofs.Common.{BoardView, Setting, Walk, [], ap, append-nil, append_assoc, arith, by_view, cases_lt, drop}
+use Rattle.pac_debug_session.proofs.Common.{drop-append_seam, drop-length, ended-for-good, frame_steps, inl, inr, length, limit, next_from}
+use Rattle.pac_debug_session.proofs.Common.{outputs_between, outputs_from, play_of, power_on_board_view, run, runs-are-joined, runs-end}
+use Rattle.pac_debug_session.proofs.Common.{sym, total_frames, whole_run, ℕ, ◌*◌, ◌++◌, ◌+◌, ◌-◌, ◌∙◌, ◌≡◌, ◌≤◌}
 use mathlib.Core.List.{IsPrefix}
 use Rattle.pac_debug_session.proofs.Indices.{between}
 
@@ -15,7 +14,7 @@ module _ (setting : Setting) where
       let same : from + (index - from) ≡ index = omega arith in
       let joined = runs-are-joined (by_view setting.set) (play_of setting.script) (power_on_board_view setting.switches) from
       (index - from) in
-      subst (λ n. IsPrefix (run setting from).outputs (run setting n).outputs) same joined
+      rw same at joined
 
   pub between-joined : (first second third : ℕ) → first ≤ second → second ≤ third
       → outputs_between setting first second ++ outputs_between setting second third ≡ outputs_between setting first third
@@ -23,8 +22,7 @@ module _ (setting : Setting) where
       let after = prefix second third more in
       ap (λ xs. xs ++ outputs_between setting second third) (between setting first second before.0 (sym before.1))
       ∙ ap (λ xs. before.0 ++ xs) (between setting second third after.0 (sym after.1))
-      ∙ sym
-      (between setting first third (before.0 ++ after.0)
+      ∙ sym (between setting first third (before.0 ++ after.0)
       (sym after.1 ∙ ap (λ xs. xs ++ after.0) (sym before.1) ∙ append_assoc (run setting first).outputs before.0 after.0))
 
   pub between-self : (index : ℕ) → outputs_between setting index index ≡ []
@@ -32,20 +30,15 @@ module _ (setting : Setting) where
 
   -- up to its end it gives no more than the whole of it
   whole-prefix : (index : ℕ) → IsPrefix (run setting index).outputs (whole_run setting).outputs
-  whole-prefix index = choose (nat_le index (frame_steps * total_frames setting.script)) refl
-    where
-      last : ℕ
-      last = frame_steps * total_frames setting.script
-
-      choose : (b : Bool) → nat_le index last ≡ b → IsPrefix (run setting index).outputs (whole_run setting).outputs
-      choose true e = prefix index last (grind (arith, nat_tests))
-      choose false e =
-          let less : last ≤ index = grind (arith, nat_tests) in
-          let same : index ≡ last + (index - last) = omega arith in
-          let ended = (runs-end (by_view setting.set) (play_of setting.script) (power_on_board_view setting.switches) last).0 in
-          let stays =
-          ended-for-good (next_from setting) (limit setting) (run setting 0).now last (index - last) index same ended in
-          ([], append-nil (run setting index).outputs ∙ ap (λ (w : Walk BoardView). w.outputs) stays)
+  whole-prefix index =
+      let last : ℕ = frame_steps * total_frames setting.script in elim (cases_lt index last) [
+        | inl less ↦ prefix index last (omega arith)
+        | inr less ↦
+            let same : index ≡ last + (index - last) = omega arith in
+            let ended = (runs-end (by_view setting.set) (play_of setting.script) (power_on_board_view setting.switches) last).0 in
+            let stays = ended-for-good (next_from setting) (limit setting) (run setting 0).now last (index - last) index same ended in
+            ([], append-nil (run setting index).outputs ∙ ap (λ (w : Walk BoardView). w.outputs) stays)
+      ]
 
   pub joined-to-end : (from index : ℕ) → from ≤ index
       → outputs_between setting from index ++ outputs_from setting index ≡ outputs_from setting from

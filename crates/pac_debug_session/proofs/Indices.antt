@@ -1,13 +1,8 @@
 -- A run at its indices: where it goes on, each index is one step, and each step takes its time.
-use Rattle.pac_debug_session.proofs.Common.{BoardView, Bool, Goes, IsTimely, List, Moment, Next, None, Output, Setting, StepKind, ap, arith}
-use Rattle.pac_debug_session.proofs.Common.{by_view, drop, drop-append_seam, false, goes_at, held, is_late, is_none, length, next_at}
-use Rattle.pac_debug_session.proofs.Common.{next_from, not, now_at, outputs_between, play-timely, refl, rules, run, stop_at, suc, true}
-use Rattle.pac_debug_session.proofs.Common.{walk_after_step, zero, ℕ, ◌&&◌, ◌++◌, ◌<◌, ◌∙◌, ◌≡◌}
-
--- ---- tests
-
-both : (late none : Bool) → (not late && none) ≡ true → (late ≡ false) × (none ≡ true)
-both late none e = search rules
+use Rattle.pac_debug_session.proofs.Common.{BoardView, Goes, IsTimely, List, Moment, Next, None, Output, Setting, StepKind, and_parts, ap}
+use Rattle.pac_debug_session.proofs.Common.{arith, by_view, drop, drop-append_seam, false, goes_at, held, is_late, is_none, length, next_at}
+use Rattle.pac_debug_session.proofs.Common.{next_from, not-true, now_at, outputs_between, play-timely, refl, rules, run, stop_at, suc, true}
+use Rattle.pac_debug_session.proofs.Common.{walk_after_step, zero, ℕ, ◌++◌, ◌<◌, ◌∙◌, ◌≡◌}
 
 -- ---- a step that is done
 
@@ -24,7 +19,7 @@ module _ (setting : Setting) where
 
   -- the run goes on at an index
   pub goes-early : (index : ℕ) → goes_at setting index ≡ true → is_late setting index ≡ false
-  goes-early index goes = (both (is_late setting index) (is_none (stop_at setting index)) goes).0
+  goes-early index goes = not-true (is_late setting index) (and_parts _ (is_none (stop_at setting index)) goes).0
 
   pub goes-on : (index : ℕ) → goes_at setting index ≡ true → IsGoing (next_at setting index)
   goes-on index goes = search rules
@@ -61,5 +56,4 @@ module _ (setting : Setting) where
 
   pub between : (from index : ℕ) (outputs : List Output) → (run setting index).outputs ≡ (run setting from).outputs ++ outputs
       → outputs_between setting from index ≡ outputs
-  between from index outputs is =
-      ap (drop (length (run setting from).outputs)) is ∙ drop-append_seam (run setting from).outputs outputs
+  between from index outputs is = ap (drop (length (run setting from).outputs)) is ∙ drop-append_seam (run setting from).outputs outputs

@@ -3,11 +3,9 @@ use Rattle.pac_debug_session.proofs.Common.{AreStops, BoardValue, BoardView, Cou
 use Rattle.pac_debug_session.proofs.Common.{Inside, IsInsideRight, IsLeap, IsLeapRefused, IsStanding, LeapEnds, Leaps, List, MeetNothing}
 use Rattle.pac_debug_session.proofs.Common.{Moment, None, Ok, Option, PastStep, Result, Ring, SessionValue, Some, Stop, TookAll, Walk, ap}
 use Rattle.pac_debug_session.proofs.Common.{arith, board_at, cases_lt, checkpoint_steps, course_of, cut-along, cut-something, frame_end}
-use Rattle.pac_debug_session.proofs.Common.{frame_ticks, goes_at, if◌then◌else◌, leap_limit, list_any, max, min, moved_to, nat_lt}
+use Rattle.pac_debug_session.proofs.Common.{frame_ticks, goes_at, if◌then◌else◌, inl, inr, leap_limit, list_any, max, min, moved_to, nat_lt}
 use Rattle.pac_debug_session.proofs.Common.{nat_tests, now_at, outputs_between, refl, rules, session_view, stepped, stop_unless, subst, suc}
 use Rattle.pac_debug_session.proofs.Common.{sym, told_at, true, way_walked, zero, ℕ, ◌%◌, ◌+◌, ◌-◌, ◌/◌, ◌<◌, ◌==◌, ◌∙◌, ◌≡◌, ◌≤◌}
-use mathlib.Core.Logic.{inl, inr}
-use mathlib.Core.List.{IsPrefix}
 use Rattle.pac_debug_session.proofs.Ends.{goes-if-counted}
 use Rattle.pac_debug_session.proofs.Indices.{IsOpen, open-up-to}
 use Rattle.pac_debug_session.proofs.PlayedOn.{run-walked, given-walked, steps-same}
@@ -99,9 +97,6 @@ module _ (old : SessionValue) (within : old.index ≤ old.furthest)
       begun-at : (n : ℕ) → n < tries → (now_at old.setting (old.index + n)).time < min limit (frame_end (course_of old))
       begun-at n less = grind (arith, as-many, reached-here)
 
-      frame-at : (n : ℕ) → n < tries → (now_at old.setting (old.index + n)).time / frame_ticks ≡ (from old).time / frame_ticks
-      frame-at n less = omega (arith, (reached-here n (omega arith)).time, begun-at n less)
-
       few-steps : (most : ℕ) → limit ≡ leap_limit old most → tries ≤ min most (checkpoint_steps - old.index % checkpoint_steps)
       few-steps most limit_is = grind (arith, begun-at (tries - 1), reached-here (tries - 1))
 
@@ -121,7 +116,8 @@ module _ (old : SessionValue) (within : old.index ≤ old.furthest)
             frame = λ i after before.
                 let n : ℕ = i - old.index in
                 let same : i ≡ old.index + n = omega arith in
-                ap (λ i. (now_at old.setting i).time / frame_ticks) same ∙ frame-at n (omega arith);
+                ap (λ i. (now_at old.setting i).time / frame_ticks) same
+                ∙ omega (arith, (reached-here n (omega arith)).time, begun-at n (omega arith));
           }
 
       -- what a session sees then
@@ -144,8 +140,7 @@ module _ (old : SessionValue) (within : old.index ≤ old.furthest)
             → IsStanding (session_on old new).setting new.state.now told (session_on old new).furthest ring
         stands-then ring left =
             let less = few-steps most limit_is in
-            subst (λ set. IsStanding (record old.setting { set = set }) new.state.now told (max old.furthest new.state.now.steps) ring)
-            (sym (ap (λ (b : BoardValue). b.set) stands.board_is)) (grind (arith, cases_lt, goes-all, stands, told-there))
+            rw set-then (grind (arith, cases_lt, goes-all, stands, told-there))
 
         leap-of : (heeded : List ℕ) → AreStops stops heeded → IsLeap old heeded most new.state.now.steps
         leap-of heeded are = search (rules, arith, few-steps, nothing-met, stands)
@@ -164,10 +159,8 @@ module _ (old : SessionValue) (within : old.index ≤ old.furthest)
           let all : new.state.now.steps ≡ old.index + gone.made.played.steps = omega (arith, opened.steps) in
           let leap_is = leap-of (Ok found) gone most limit_is heeded are in
           let ending_is = ends-so (Ok found) gone most limit_is found gone.made.ending in
-          let sink_is_is =
-          subst (λ xs. TookAll to.took sink xs later)
-          (sym (ap (outputs_between old.setting old.index) all ∙ given-walked old opened gone.made.played.steps))
-          gone.made.played.sink_is in
+          let sink_is_is : TookAll to.took sink (outputs_between old.setting old.index new.state.now.steps) later =
+          rw (all, given-walked old opened gone.made.played.steps) gone.made.played.sink_is in
           grind (arith, ends-so, given-walked, leap-of, value-there)
 
       leap-refused : {E : Type 0} (refusal : E) → Gone old to sink later limit stops new told (Err refusal)
@@ -187,7 +180,7 @@ module _ (old : SessionValue) (within : old.index ≤ old.furthest)
                 cut =
                     cut-along (ap (outputs_between old.setting old.index) all ∙ given-walked old opened gone.made.steps)
                     (cc (now-then (Err refusal) gone)) gone.made.cut;
-                of_last = subst (λ xs. IsPrefix xs gone.made.cut.taken) (sym (given-walked old opened last)) (gone.made.of_last last is);
+                of_last = rw (given-walked old opened last) (gone.made.of_last last is);
               }
 
       pub leaps-so : {E : Type 0} (result : Result (Option Stop) E) → Gone old to sink later limit stops new told result

@@ -5,12 +5,11 @@ use Rattle.pac_debug_session.proofs.Common.{by_view, course_of, cut-after, cut-a
 use Rattle.pac_debug_session.proofs.Common.{frame_steps, frame_ticks, goes-on, joined, limit, more-joined, most_frames, moved_to, next_from}
 use Rattle.pac_debug_session.proofs.Common.{next_in, nothing_due, now_at, outcome_at, outputs_between, outputs_from, play_of}
 use Rattle.pac_debug_session.proofs.Common.{power_on_board_view, prefix-after, refl, replayed_to, rules, run, runs-end, session_due_outputs}
-use Rattle.pac_debug_session.proofs.Common.{subst, suc, sym, took-both, total_frames, walk, walk-same, walk-to-ends, way_on, way_walked}
-use Rattle.pac_debug_session.proofs.Common.{whole_run, zero, ℕ, ◌*◌, ◌++◌, ◌+◌, ◌∙◌, ◌≡◌, ◌≤◌}
+use Rattle.pac_debug_session.proofs.Common.{suc, sym, took-both, total_frames, walk, walk-same, walk-to-ends, way_on, way_walked, whole_run}
+use Rattle.pac_debug_session.proofs.Common.{zero, ℕ, ◌*◌, ◌+◌, ◌∙◌, ◌≡◌, ◌≤◌}
 use mathlib.Core.List.{IsPrefix}
-use Rattle.pac_debug_session.proofs.Ends.{start, run-ends, goes-if-counted}
+use Rattle.pac_debug_session.proofs.Ends.{start, run-ends, goes-if-counted, time-near}
 use Rattle.pac_debug_session.proofs.Indices.{IsOpen, open-up-to, timely, between}
-use Rattle.pac_debug_session.proofs.Ends.{time-near}
 
 -- ---- the course's walks are the run's
 
@@ -43,8 +42,7 @@ module _ (s : SessionValue) (opened : IsOpen s.setting s.index) where
 
   pub run-on : after_here (way_on course) ≡ whole_run s.setting
   run-on =
-      ap after_here
-      (grind (arith, limits, steps-same, walk-same))
+      ap after_here (grind (arith, limits, steps-same, walk-same))
       ∙ goes-on next (limit s.setting) (timely s.setting) (start s.setting) s.index
       ∙ (runs-end (by_view s.setting.set) (play_of s.setting.script) (power_on_board_view s.setting.switches) (limit s.setting)).1
       (walk-to-ends next (limit s.setting) (timely s.setting) (start s.setting))
@@ -78,7 +76,7 @@ module _ {S : Type 0} (to : Giving S) (old : SessionValue) (facts : IsSession ol
       → IsOver to.took from between_sinks stop after later → outcome ≡ outcome_at after.board.state.now stop
       → (left : SessionValue) × IsFinished to.took old sink outcome left later
   played from after stop later outcome begins is_over is =
-      let over = subst (λ course. IsOver to.took course between_sinks stop after later) begins is_over in
+      let over = rw begins at is_over in
       let end = run-ends old.setting old.index in
       let whole = run-on at_furthest opened-there in
       let now : after.board.state.now ≡ (whole_run old.setting).now
@@ -90,7 +88,7 @@ module _ {S : Type 0} (to : Giving S) (old : SessionValue) (facts : IsSession ol
           outcome_is = is ∙ (λ i. outcome_at (now i) (met i));
           session = refl;
           sink_is =
-              subst (λ xs. TookAll to.took sink (due ++ xs) later) (sym (given-on at_furthest opened-there))
+              rw (given-on at_furthest opened-there)
               (took-both to.took due (way_on (course_of at_furthest)).outputs sink between_sinks later before over.sink_is);
         },
       )
@@ -99,11 +97,10 @@ module _ {S : Type 0} (to : Giving S) (old : SessionValue) (facts : IsSession ol
   pub ends-near : (from after : CourseValue) (stop : Option Stop) (later : S) → from ≡ course_of at_furthest
       → IsOver to.took from between_sinks stop after later → after.board.state.now.time ≤ frame_ticks * (most_frames + 1)
   ends-near from after stop later begins is_over =
-      let over = subst (λ course. IsOver to.took course between_sinks stop after later) begins is_over in
+      let over = rw begins at is_over in
       let whole = run-on at_furthest opened-there in
       let time = ap (λ (course : CourseValue). course.board.state.now.time) over.course ∙ ap (λ (w : Walk BoardView). w.now.time) whole in
-      let near = time-near old.setting (frame_steps * total_frames old.setting.script) in
-      omega (arith, time, near)
+      let near = time-near old.setting (frame_steps * total_frames old.setting.script) in omega (arith, time, near)
 
   -- an output was refused, after one step at least
   held-there : (after : CourseValue) (later : S) (steps : ℕ)
@@ -114,22 +111,17 @@ module _ {S : Type 0} (to : Giving S) (old : SessionValue) (facts : IsSession ol
       let last : ℕ = old.furthest + more in
       let index : ℕ = old.furthest + suc more in
       let next : index ≡ suc last = omega arith in
-      let at : after.board.state.now ≡ now_at old.setting index
-      = ap (λ (course : CourseValue). course.board.state.now) stopped.course
-      ∙ ap (λ n. (way_walked (course_of at_furthest) n).now) count
-      ∙ ap (λ (w : Walk BoardView). w.now) (run-walked at_furthest opened-there (suc more)) in
+      let at : after.board.state.now ≡ now_at old.setting index =
+      rw (stopped.course, count) (ap (λ (w : Walk BoardView). w.now) (run-walked at_furthest opened-there (suc more))) in
       let set : after.board.set ≡ old.setting.set = ap (λ (course : CourseValue). course.board.set) stopped.course in
-      let first = opened-there.steps in
-      let here = ap (λ (m : Moment BoardView). m.steps) at in
       let there = ap (λ n. (now_at old.setting n).steps) next in
-      let counted : (now_at old.setting (suc last)).steps ≡ suc last = omega (arith, count, first, here, there) in
+      let counted : (now_at old.setting (suc last)).steps ≡ suc last =
+      omega (arith, count, opened-there.steps, ap (λ (m : Moment BoardView). m.steps) at, there) in
       let left : SessionValue = record (moved_to old index) { due = after.board.state.due; replayed = 0 } in
-      let still : due_outputs after.board ≡ session_due_outputs left
-      = cc (set, at) in
+      let still : due_outputs after.board ≡ session_due_outputs left = cc (set, at) in
       let given = given-walked at_furthest opened-there (suc more) ∙ ap (λ n. (way_walked (course_of at_furthest) n).outputs) (sym count) in
-      let most =
-      subst (λ outputs. IsPrefix outputs stopped.cut.taken) (sym (given-walked at_furthest opened-there more))
-      (stopped.of_last more count) in (
+      let most : IsPrefix (outputs_between old.setting old.furthest last) stopped.cut.taken =
+      rw (given-walked at_furthest opened-there more) (stopped.of_last more count) in (
         left,
         record {
           last = last;
@@ -142,9 +134,7 @@ module _ {S : Type 0} (to : Giving S) (old : SessionValue) (facts : IsSession ol
         },
       )
 
-  pub held-up : (from after : CourseValue) (later : S) → from ≡ course_of at_furthest
-      → IsCourseHeldUp to from between_sinks after later
+  pub held-up : (from after : CourseValue) (later : S) → from ≡ course_of at_furthest → IsCourseHeldUp to from between_sinks after later
       → (left : SessionValue) × IsFinishRefused to old sink left later
   held-up from after later begins stopped =
-      let told = subst (λ course. IsCourseHeldUp to course between_sinks after later) begins stopped in
-      held-there after later told.steps told refl
+      let told = rw begins at stopped in held-there after later told.steps told refl

@@ -28,9 +28,8 @@ module _ (setting : Setting) (furthest : ℕ) where
   right-set slots place slot right one seen = grind (arith, length-set, map-set, seen-set, slots-set)
 
   -- the slot of a place
-  slot-at : (slots : List SlotContents) (place : ℕ) (slot : SlotContents) → place < length slots → slot ≡ get_or slots place slot →
-      AreSlots setting slots
-      → IsSlot setting slot
+  slot-at : (slots : List SlotContents) (place : ℕ) (slot : SlotContents) → place < length slots → slot ≡ get_or slots place slot
+      → AreSlots setting slots → IsSlot setting slot
   slot-at [] place slot less is all = absurd (omega arith)
   slot-at (first ∷ more) zero slot less is all = subst (IsSlot setting) (sym is) all.0
   slot-at (first ∷ more) (suc place) slot less is all = slot-at more place slot (omega arith) is all.1
@@ -75,13 +74,10 @@ module _ (switches : ℕ) (script : List Stretch) (board new : BoardValue) (hist
 
   pub right-there : (slots : List SlotContents) → AreSlotsRight (setting-of board) furthest slots →
       AreSlotsRight (setting-of new) furthest slots
-  right-there slots right = subst (λ (b : BoardValue). AreSlotsRight (setting-of b) furthest slots) (sym board_is) right
+  right-there slots right = rw board_is right
 
   pub value-there : (breakpoints : List ℕ) (marks : List (Option ℕ)) (replayed index : ℕ) → kept.snapshot.now.steps ≡ index
       → kept.snapshot.due ≡ nothing_due
       → with_board switches script new furthest breakpoints marks replayed
       ≡ record (with_board switches script board furthest breakpoints marks replayed) { index = index; due = nothing_due }
-  value-there breakpoints marks replayed index steps nothing =
-      ap (λ (b : BoardValue). with_board switches script b furthest breakpoints marks replayed) board_is
-      ∙ ap (λ n. record (with_board switches script board furthest breakpoints marks replayed) { index = n; due = kept.snapshot.due }) steps
-      ∙ ap (λ due. record (with_board switches script board furthest breakpoints marks replayed) { index = index; due = due }) nothing
+  value-there breakpoints marks replayed index steps nothing = rw (board_is, steps, nothing)

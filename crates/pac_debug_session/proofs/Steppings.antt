@@ -2,26 +2,21 @@
 use Rattle.pac_debug_session.proofs.Common.{AreCheckpoints, AreSeen, AreSlotsRight, BoardValue, IsKeptAt, IsSeen, IsStanding, List, Option}
 use Rattle.pac_debug_session.proofs.Common.{PastStep, Ring, SessionSnapshot, SessionValue, Setting, SlotContents, Stretch, [], arith}
 use Rattle.pac_debug_session.proofs.Common.{checkpoint_count, checkpoint_steps, drop, kept_of, length, length-append, length-drop}
-use Rattle.pac_debug_session.proofs.Common.{nat_tests, nothing_due, ring_after_index, rules, subst, ℕ, ◌*◌, ◌++◌, ◌+◌, ◌-◌, ◌<◌, ◌∷◌, ◌≡◌}
-use Rattle.pac_debug_session.proofs.Common.{◌≤◌}
+use Rattle.pac_debug_session.proofs.Common.{nat_tests, nothing_due, ring_after_index, rules, ℕ, ◌*◌, ◌++◌, ◌+◌, ◌-◌, ◌<◌, ◌∷◌, ◌≡◌, ◌≤◌}
 
 -- ---- checkpoints
 
 module _ (setting : Setting) where
   pub checkpoints-append : (taken : ℕ) (ks : List SessionSnapshot) (k : SessionSnapshot) → AreCheckpoints setting taken ks
-      → IsKeptAt setting (checkpoint_steps * (taken + length ks - checkpoint_count)) k
-      → AreCheckpoints setting taken (ks ++ k ∷ [])
+      → IsKeptAt setting (checkpoint_steps * (taken + length ks - checkpoint_count)) k → AreCheckpoints setting taken (ks ++ k ∷ [])
   checkpoints-append taken [] k so_far here = search rules
   checkpoints-append taken (first ∷ ks) k so_far here =
-      let same : taken + length (first ∷ ks) ≡ taken + 1 + length ks = omega arith in (
-        so_far.0,
-        checkpoints-append (taken + 1) ks k so_far.1
-            (subst (λ n. IsKeptAt setting (checkpoint_steps * (n - checkpoint_count)) k) same here),
-      )
+      let same : taken + length (first ∷ ks) ≡ taken + 1 + length ks = omega arith in
+      (so_far.0, checkpoints-append (taken + 1) ks k so_far.1 (rw same at here))
 
-  pub checkpoints-more : (taken : ℕ) (ks : List SessionSnapshot) (k : SessionSnapshot) → length ks ≡ checkpoint_count →
-      AreCheckpoints setting taken ks
-      → IsKeptAt setting (checkpoint_steps * taken) k → AreCheckpoints setting (taken + 1) (drop 1 ks ++ k ∷ [])
+  pub checkpoints-more : (taken : ℕ) (ks : List SessionSnapshot) (k : SessionSnapshot) → length ks ≡ checkpoint_count
+      → AreCheckpoints setting taken ks → IsKeptAt setting (checkpoint_steps * taken) k
+      → AreCheckpoints setting (taken + 1) (drop 1 ks ++ k ∷ [])
   checkpoints-more taken ks k all so_far here = grind (arith, checkpoints-append)
 
 -- ---- a session
@@ -47,9 +42,8 @@ pub all-seen-later : (furthest later : ℕ) (slots : List (Option ℕ)) → furt
 all-seen-later furthest later [] less seen = tt
 all-seen-later furthest later (slot ∷ slots) less seen = grind (arith, seen-later, all-seen-later furthest later slots less seen.1)
 
-pub right-later : (setting : Setting) (furthest later : ℕ) (slots : List SlotContents) → furthest ≤ later →
-    AreSlotsRight setting furthest slots
-    → AreSlotsRight setting later slots
+pub right-later : (setting : Setting) (furthest later : ℕ) (slots : List SlotContents) → furthest ≤ later
+    → AreSlotsRight setting furthest slots → AreSlotsRight setting later slots
 right-later setting furthest later slots less right = grind (arith, all-seen-later)
 
 -- the ring, once its index is left

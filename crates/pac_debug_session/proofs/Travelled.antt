@@ -3,9 +3,9 @@ use Rattle.pac_debug_session.proofs.Common.{AtStop, Bool, Continue, Frames, Givi
 use Rattle.pac_debug_session.proofs.Common.{IsStrideRefused, IsTravelRefused, MeetNothing, Motion, MotionEnd, Option, RestsBy, SessionValue}
 use Rattle.pac_debug_session.proofs.Common.{Some, Steps, Stop, ToEnd, TookAll, and_parts, and_right, ap, arith, breaks_at, cases_lt}
 use Rattle.pac_debug_session.proofs.Common.{cut-after, cut-along, false, goes_at, has_met, heeded_by, heeded_if, heeds, inl, inr, is_done}
-use Rattle.pac_debug_session.proofs.Common.{is_late, longest_stride, max, min, motion_ending, moved_to, nat_tests, not, not-both, or_parts}
-use Rattle.pac_debug_session.proofs.Common.{outputs_between, prefix-after, refl, rests, rules, steps_left, stop_at, stop_of, subst, sym}
-use Rattle.pac_debug_session.proofs.Common.{took-both, true, ℕ, ◌++◌, ◌-◌, ◌<◌, ◌||◌, ◌∙◌, ◌≡◌, ◌≤◌}
+use Rattle.pac_debug_session.proofs.Common.{is_late, longest_stride, max, min, motion_ending, moved_to, nat_tests, not, not-both}
+use Rattle.pac_debug_session.proofs.Common.{not_from_true, or_from, or_parts, outputs_between, prefix-after, refl, rests, rules, steps_left}
+use Rattle.pac_debug_session.proofs.Common.{stop_at, stop_of, subst, sym, took-both, true, ℕ, ◌++◌, ◌-◌, ◌<◌, ◌||◌, ◌∙◌, ◌≡◌, ◌≤◌}
 use mathlib.Core.List.{IsPrefix}
 use Rattle.pac_debug_session.proofs.Forwards.{between-joined, between-self}
 use Rattle.pac_debug_session.proofs.Ends.{IsWhole, whole-late, whole-stopped}
@@ -19,9 +19,6 @@ module _ (s : SessionValue) (motion : Motion) (from : ℕ) where
 
   rests-met : (index : ℕ) → has_met s motion from index ≡ true → rests s motion from index ≡ true
   rests-met index met = ap (λ done. done || not (goes_at s.setting index)) met
-
-  goes-past : (index : ℕ) → has_met s motion from index ≡ false → goes_at s.setting index ≡ true → rests s motion from index ≡ false
-  goes-past index unmet goes = ap (λ done. done || not (goes_at s.setting index)) unmet ∙ ap not goes
 
 -- a motion to the end meets nothing before it
 pub never-met : {A : Type 0} (s : SessionValue) (from index : ℕ) → has_met s ToEnd from index ≡ true → A
@@ -63,17 +60,15 @@ module _ (s : SessionValue) (motion : Motion) (from : ℕ) (after : from ≤ s.i
     unmet-within index later less = grind (arith, and_right, nat_tests, undone, undone-within)
 
     restless-within : (index : ℕ) → s.index ≤ index → index < until → rests s motion from index ≡ false
-    restless-within index later less =
-        goes-past s motion from index (unmet-within index later less) (leap.unmet.goes index later less)
+    restless-within index later less = or_from _ _ (unmet-within index later less) (not_from_true _ (leap.unmet.goes index later less))
 
 -- ---- on behalf of a motion
 
 module _ {S : Type 0} (to : Giving S) (old new : SessionValue) (motion : Motion) (from : ℕ) (heeded : Bool) (most : ℕ)
     (heeded_is : heeded ≡ heeds motion) (most_is : most ≡ longest_stride motion (old.index - from)) (sink later : S) where
   -- before the furthest index the sink was given it
-  pub strode-stale : (asked : ℕ) (stop : Option Stop) → asked ≡ min most (old.furthest - old.index)
-      → old.index ≤ old.furthest → IsLeapt old (heeded_if heeded old.breakpoints) asked stop new
-      → HasStrode to.took old motion from sink stop new sink
+  pub strode-stale : (asked : ℕ) (stop : Option Stop) → asked ≡ min most (old.furthest - old.index) → old.index ≤ old.furthest
+      → IsLeapt old (heeded_if heeded old.breakpoints) asked stop new → HasStrode to.took old motion from sink stop new sink
   strode-stale asked stop asked_is within leapt = grind (arith, between-self)
 
 -- ---- the motion
@@ -96,7 +91,7 @@ module _ {S : Type 0} (to : Giving S) (old : SessionValue) (motion : Motion) (si
     met-there index b met = search rules
 
     late-there : (index : ℕ) (b : Bool) → is_late s.setting index ≡ b → is_late old.setting index ≡ b
-    late-there index b late = subst (λ given. is_late given index ≡ b) setting late
+    late-there index b late = rw setting at late
 
     -- some steps more
     moved-on : (index : ℕ) → s.index ≤ index → moved_to s index ≡ moved_to old index
@@ -114,8 +109,7 @@ module _ {S : Type 0} (to : Giving S) (old : SessionValue) (motion : Motion) (si
       restless-on earlier since less = elim (cases_lt earlier s.index) [
         | inl before ↦ under.restless earlier since before
         | inr later ↦
-            subst (λ (t : SessionValue). rests t motion old.index earlier ≡ false) under.session
-            (grind (arith, restless-within))
+            subst (λ (t : SessionValue). rests t motion old.index earlier ≡ false) under.session (grind (arith, restless-within))
       ]
 
     pub underway-more : (new : SessionValue) (later : S) (stop : Option Stop) → has_met s motion from s.index ≡ false
@@ -127,9 +121,7 @@ module _ {S : Type 0} (to : Giving S) (old : SessionValue) (motion : Motion) (si
           after = omega arith;
           restless = restless-on unmet new one.leapt.leap;
           session = one.leapt.session ∙ moved-on new.index one.leapt.leap.after;
-          sink_is =
-              subst (λ xs. TookAll to.took sink xs later) (given-on new.furthest (omega arith))
-              (grind (arith, setting, took-both));
+          sink_is = rw (← given-on new.furthest (omega arith)) (grind (arith, setting, took-both));
         }
 
     -- it rests where it is
@@ -141,8 +133,7 @@ module _ {S : Type 0} (to : Giving S) (old : SessionValue) (motion : Motion) (si
         → HasTravelled to.took old motion sink (motion_ending motion (breaks_at s s.index)) s taker
     underway-met early met = let there = met-there _ _ met in
         subst (λ breaks. HasTravelled to.took old motion sink (motion_ending motion breaks) s taker)
-        (sym (ap (λ (t : SessionValue). breaks_at t s.index) under.session))
-        (grind (arith, late-there, met-by, rests-here, rests-met))
+        (sym (ap (λ (t : SessionValue). breaks_at t s.index) under.session)) (grind (arith, late-there, met-by, rests-here, rests-met))
 
     pub underway-refused : (new : SessionValue) (later : S) → has_met s motion from s.index ≡ false
         → IsStrideRefused to s motion from taker new later → IsTravelRefused to old motion sink new later
@@ -159,8 +150,7 @@ module _ {S : Type 0} (to : Giving S) (old : SessionValue) (motion : Motion) (si
           restless = λ earlier from less. restless-on unmet new refusal.leap earlier from (omega arith);
           session = grind (arith, moved-on);
           cut =
-              cut-along (sym (given-on new.index (omega arith))) refl
-              (cut-after before sink taker later under.sink_is
+              cut-along (sym (given-on new.index (omega arith))) refl (cut-after before sink taker later under.sink_is
               (cut-along (ap (λ n. outputs_between s.setting n new.index) (sym fresh)) refl refusal.cut));
           of_last =
               subst (λ xs. IsPrefix xs (before ++ refusal.cut.taken)) (given-on refusal.last (omega arith))
@@ -170,14 +160,12 @@ module _ {S : Type 0} (to : Giving S) (old : SessionValue) (motion : Motion) (si
   -- its next step meets a stop
   pub underway-stopped : (s new : SessionValue) (taker later : S) (stop : Stop) (from : ℕ) → from ≡ old.index → IsUnderway s taker
       → is_late s.setting s.index ≡ false → has_met s motion from s.index ≡ false
-      → HasStrode to.took s motion from taker (Some stop) new later
-      → HasTravelled to.took old motion sink (AtStop stop) new later
+      → HasStrode to.took s motion from taker (Some stop) new later → HasTravelled to.took old motion sink (AtStop stop) new later
   underway-stopped s new taker later stop from from_is under early unmet one = let on = underway-more _ _ under _ from_is _ _ _ unmet one in
       let here = one.leapt.ending.0 in
       let open_yet : is_late old.setting new.index ≡ false
       = ap (is_late old.setting) here ∙ late-there s taker under from from_is s.index false early in
-      let met : stop_at old.setting new.index ≡ Some stop
-      = cc (here, setting s taker under from from_is, one.leapt.ending.1) in
+      let met : stop_at old.setting new.index ≡ Some stop = cc (here, setting s taker under from from_is, one.leapt.ending.1) in
       rests-here new later on from from_is (AtStop stop) (rests-stopped old motion old.index new.index stop open_yet met)
       (grind (arith, met-there))
 

@@ -45,9 +45,6 @@ module _ {F W L R : Type 0} (to : Writings F W L R) (inputs : RunInputs) (from :
 
 -- from power-on
 module _ {F W L R : Type 0} (to : Writings F W L R) (inputs : RunInputs) where
-  pub ran : (it : RunEnd) → RunsTo inputs None to (Ok it) → Runs inputs to (Ok it.outcome)
-  ran it runs = record { plan = runs.plan; plan_is = runs.plan_is; holds = runs.holds.holds.files }
-
   pub failed : (why : RunFault) → RunsTo inputs None to (Err why) → Runs inputs to (Err why)
   failed why runs = search rules
 
@@ -63,8 +60,7 @@ module _ {F W L R S : Type 0} (to : Writings F W L R) (state : Writing S) (input
     bytes = save_text written_version it.board.value.set it.board.value.state
 
     abbrev end : BoardState
-    end =
-        end_state runs.plan.set (total_frames runs.plan.script) runs.holds.board (run_from runs.plan inputs.dip from runs.holds.board)
+    end = end_state runs.plan.set (total_frames runs.plan.script) runs.holds.board (run_from runs.plan inputs.dip from runs.holds.board)
 
     pub saved : TakesText state bytes → Resumes inputs from to state (Ok it.outcome)
     saved takes = search rules

@@ -3,7 +3,7 @@ use Rattle.pac_run.proofs.Common.{BoardState, BoardValue, Bool, Err, IsFile, IsF
 use Rattle.pac_run.proofs.Common.{LoadFault, Midst, None, Option, Parts, RefusesBytes, RefusesFile, Some, StartsWith, StateFault, Stretch}
 use Rattle.pac_run.proofs.Common.{arith, board_of_file, frame_microseconds, frame_ticks, has_room, if◌then◌else◌, is_between_frames, latest}
 use Rattle.pac_run.proofs.Common.{most_asked, most_frames, nat_le, nat_tests, not, power-on-board, power_on_board, refl, refusal_told}
-use Rattle.pac_run.proofs.Common.{rules, start_fault, subst, sym, total_frames, true, ℕ, ◌&&◌, ◌*◌, ◌+◌, ◌/◌, ◌≡◌, ◌≤◌}
+use Rattle.pac_run.proofs.Common.{rules, start_fault, total_frames, true, ℕ, ◌*◌, ◌+◌, ◌/◌, ◌≡◌, ◌≤◌}
 
 -- ---- where nothing keeps a run from beginning
 
@@ -11,9 +11,6 @@ no-fault : (between room : Bool)
     → ◌≡◌ {A = Option StateFault} (if not between then Some Midst else if not room then Some Limit else None) None
     → (between ≡ true) × (room ≡ true)
 no-fault between room none = search rules
-
-pub both-true : (one other : Bool) → (one && other) ≡ true → (one ≡ true) × (other ≡ true)
-both-true one other e = search rules
 
 module _ (state : BoardState) (frames : ℕ) (begins : start_fault state frames ≡ None) where
   pub tests : (is_between_frames state ≡ true) × (has_room state frames ≡ true)
@@ -49,8 +46,7 @@ taken-up set script bytes board first holds = search rules
 pub from-power-on : (set : Parts) (dip : ℕ) (script : List Stretch) (board : BoardValue) → board ≡ power_on_board set dip
     → total_frames script ≤ most_frames → IsStarted (IsFirstBoard set dip script None) set script board
 from-power-on set dip script board is short =
-    subst (λ board. IsStarted (λ board. board ≡ power_on_board set dip) set script board) (sym is)
-    (record {
+    rw is (record {
       first = refl;
       set_is = refl;
       holds = power-on-board dip;

@@ -1,21 +1,16 @@
 -- What a film and a wave file have where one of them refused, and what a player's run comes to then.
-use Rattle.pac_run.proofs.Common.{Cut, Err, Film, FinishesSound, FramesStop, HasBegun, HasSoundOf, HasStopped, IfSome, Image, Joins, List}
-use Rattle.pac_run.proofs.Common.{Ok, Output, OutputFault, Reel, RefusedImage, RefusedSound, Result, Show, Some, Sound, SoundFails, Stops}
-use Rattle.pac_run.proofs.Common.{StopsAfter, WaveStops, WriteFault, [], ap, append-nil, append_assoc, arith, common_steps, film_giving}
-use Rattle.pac_run.proofs.Common.{film_refused, header_size, heard_by, image_bytes, images_text, inl, inr, length, length-append}
-use Rattle.pac_run.proofs.Common.{outputs_before, pos, refl, replicate, rules, sample_bytes, sample_text, samples_in, samples_text}
-use Rattle.pac_run.proofs.Common.{shown_before, shown_by, stops-after, stops-within, subst, sym, wave_file_text, wave_so_far, writing, ℕ, ℤ}
-use Rattle.pac_run.proofs.Common.{◌++◌, ◌+◌, ◌-◌, ◌<◌, ◌∙◌, ◌∷◌, ◌≡◌, ◌≤◌}
+use Rattle.pac_run.proofs.Common.{Cut, Err, Film, FinishesSound, FramesStop, HasBegun, HasSoundOf, HasStopped, Image, Joins, List, Ok}
+use Rattle.pac_run.proofs.Common.{Output, OutputFault, Reel, RefusedImage, RefusedSound, Result, Show, Some, Sound, SoundFails, Stops}
+use Rattle.pac_run.proofs.Common.{WaveStops, WriteFault, [], ap, append-nil, append_assoc, arith, common_steps, film_giving, film_refused}
+use Rattle.pac_run.proofs.Common.{header_size, heard_by, image_bytes, images_text, inl, inr, length, length-append, outputs_before, pos}
+use Rattle.pac_run.proofs.Common.{refl, replicate, rules, sample_bytes, samples_in, samples_text, shown_before, shown_by, stops-after}
+use Rattle.pac_run.proofs.Common.{stops-within, sym, wave_file_text, wave_so_far, writing, ℕ, ◌++◌, ◌+◌, ◌-◌, ◌<◌, ◌∙◌, ◌∷◌, ◌≡◌, ◌≤◌}
 use mathlib.Core.List.{IsPrefix}
 use Rattle.pac_media.specs.Sound as media
 use Rattle.pac_run.specs.declared.fault.Output.{Output as Which}
 use Rattle.pac_run.specs.declared.fault.Output.TheVariants as which
 use Rattle.pac_run.proofs.Heard.{IsHeard, ends-there, frames-append, heard-images, is-heard, is-shown, size}
 use Rattle.pac_run.proofs.Filmed.{Filmed, filmed, wave-long, wave-whole, zeros, zeros-last}
-
--- the fault that is kept is that of the output that refused
-some-same : (one other : OutputFault) → Some one ≡ Some other → one ≡ other
-some-same one other e = subst (λ it. IfSome it (λ value. one ≡ value)) e refl
 
 module _ {F W : Type 0} (at : Reel F W) (total : ℕ) where
   -- Film or wave file stopped among these outputs, when those were taken.
@@ -30,28 +25,21 @@ module _ {F W : Type 0} (at : Reel F W) (total : ℕ) where
   -- ---- the wave's writer refused
 
   -- within what waited and some bytes, when these outputs were taken, and those were left
-  pub record WaveFails (taken left : List Output) (told : WriteFault) (new : Film F W) : Type 0 where
-    pub asked : Film F W
-    pub has : Filmed at total taken asked
-    pub frames : new.frames ≡ asked.frames
-    pub bytes : List ℕ
-    pub fails : SoundFails at.took_w at.refused_w asked.wave bytes told new.wave
-    pub more : List ℕ
-    pub whole : (wave_so_far total taken ++ bytes) ++ more ≡ wave_file_text total (taken ++ left)
-    pub ends : (n : ℕ) → n < length bytes → outputs_before sample_bytes n left ≡ []
-
-  module _ (taken left : List Output) (told : WriteFault) (new : Film F W) (it : WaveFails taken left told new) where
-    abbrev stopped : HasStopped at.took_w at.refused_w at.wave (wave_so_far total taken ++ it.bytes) new.wave.file
-    stopped = it.fails.after at.wave (wave_so_far total taken) it.has.sound
+  module _ (taken left : List Output) (told : WriteFault) (asked new : Film F W) (has : Filmed at total taken asked)
+      (frames : new.frames ≡ asked.frames) (bytes more : List ℕ) (fails : SoundFails at.took_w at.refused_w asked.wave bytes told new.wave)
+      (whole : (wave_so_far total taken ++ bytes) ++ more ≡ wave_file_text total (taken ++ left))
+      (ends : (n : ℕ) → n < length bytes → outputs_before sample_bytes n left ≡ []) where
+    abbrev stopped : HasStopped at.took_w at.refused_w at.wave (wave_so_far total taken ++ bytes) new.wave.file
+    stopped = fails.after at.wave (wave_so_far total taken) has.sound
 
     enough : header_size ≤ stopped.taken
     enough = search rules
 
     heard-there : IsHeard (stopped.taken - header_size) (taken ++ left) taken
     heard-there =
-        let past = it.fails.past at.wave (wave_so_far total taken) it.has.sound in
+        let past = fails.past at.wave (wave_so_far total taken) has.sound in
         let less = stopped.stopped.some_left in
-        let long = length-append (wave_so_far total taken) it.bytes in
+        let long = length-append (wave_so_far total taken) bytes in
         let first = wave-long total taken in grind (arith, enough, is-heard, size)
 
     pub wave-fails : StopsThere (taken ++ left) taken new which.Wave told.count
@@ -59,9 +47,8 @@ module _ {F W : Type 0} (at : Reel F W) (total : ℕ) where
       record {
         sound = record {
           taken = stopped.taken;
-          stopped = subst (λ (text : List ℕ). StopsAfter at.took_w at.refused_w at.wave text stopped.taken new.wave.file.writer) it.whole
-              (stops-within stopped.stopped it.more);
-          count_is = it.fails.told ∙ stopped.count_is;
+          stopped = rw whole at (stops-within stopped.stopped more);
+          count_is = fails.told ∙ stopped.count_is;
         };
         header_first = λ few. absurd (omega (arith, few, enough));
         images = grind (arith, heard-images, heard-there);
@@ -71,37 +58,15 @@ module _ {F W : Type 0} (at : Reel F W) (total : ℕ) where
     )
 
   module _ (taken rest : List Output) (asked new : Film F W) (has : Filmed at total taken asked) where
-    at-sample : (sample : ℤ) → (refused : RefusedSound at.took_w at.refused_w asked (sample_text sample) new)
-        → StopsThere (taken ++ Sound sample ∷ rest) taken new which.Wave refused.told.count
-    at-sample sample refused =
-        let left = Sound sample ∷ rest in
-        let more = samples_text (samples_in rest ++ zeros total (taken ++ left)) in
-        wave-fails taken left refused.told new (record {
-          asked = asked;
-          has = has;
-          frames = refused.frames;
-          bytes = sample_text sample;
-          fails = refused.wave;
-          more = more;
-          whole = append_assoc (wave_so_far total taken) (sample_text sample) more ∙ wave-whole total taken left;
-          ends = λ n few. ends-there sample_bytes n (Sound sample) rest few;
-        })
-
-    at-flush : (image : Image) → (refused : RefusedSound at.took_w at.refused_w asked [] new)
-        → StopsThere (taken ++ Show image ∷ rest) taken new which.Wave refused.told.count
-    at-flush image refused =
-        let left = Show image ∷ rest in
-        let more = samples_text (samples_in rest ++ zeros total (taken ++ left)) in
-        wave-fails taken left refused.told new (record {
-          asked = asked;
-          has = has;
-          frames = refused.frames;
-          bytes = [];
-          fails = refused.wave;
-          more = more;
-          whole = ap (λ bytes. bytes ++ more) (append-nil (wave_so_far total taken)) ∙ wave-whole total taken left;
-          ends = λ n few. absurd (omega (arith, few));
-        })
+    at-wave : (output : Output) → (refused : RefusedSound at.took_w at.refused_w asked (sample_bytes output) new)
+        → sample_bytes output ++ samples_text (samples_in rest ++ zeros total (taken ++ output ∷ rest))
+        ≡ samples_text (samples_in (output ∷ rest) ++ zeros total (taken ++ output ∷ rest))
+        → StopsThere (taken ++ output ∷ rest) taken new which.Wave refused.told.count
+    at-wave output refused same =
+        wave-fails taken (output ∷ rest) refused.told asked new has refused.frames (sample_bytes output) _ refused.wave
+        (append_assoc (wave_so_far total taken) (sample_bytes output) _
+        ∙ ap (λ bytes. wave_so_far total taken ++ bytes) same ∙ wave-whole total taken (output ∷ rest))
+        (λ n few. ends-there sample_bytes n output rest few)
 
     -- the frames' writer refused within an image
     module _ (joined : Joins at.took_f) (image : Image) (refused : RefusedImage at.took_f at.refused_f at.took_w asked image new) where
@@ -119,16 +84,13 @@ module _ {F W : Type 0} (at : Reel F W) (total : ℕ) where
         record {
           images = record {
             taken = size image_bytes taken + stop.taken;
-            stopped = subst (λ (text : List ℕ). StopsAfter at.took_f at.refused_f at.frames text (size image_bytes taken + stop.taken)
-                new.frames.writer)
-                (append_assoc (images_text taken) (image_bytes (Show image)) (images_text rest)
-                ∙ sym (frames-append taken (Show image ∷ rest)))
+            stopped = rw (append_assoc (images_text taken) (image_bytes (Show image)) (images_text rest)
+                ∙ sym (frames-append taken (Show image ∷ rest))) at
                 (stops-within (stops-after joined has.images.written stop.stopped) (images_text rest));
             count_is = search rules;
           };
-          sound = subst (λ outputs. at.took_w at.wave (wave_so_far total outputs) new.wave.file.writer) (sym shown-is)
-              (subst (λ (bytes : List ℕ). at.took_w at.wave bytes new.wave.file.writer) (append-nil (wave_so_far total taken))
-              (refused.wave.after at.wave (wave_so_far total taken) has.sound).written);
+          sound = rw (shown-is, ← append-nil (wave_so_far total taken))
+              (refused.wave.after at.wave (wave_so_far total taken) has.sound).written;
         },
         shown-is,
       )
@@ -137,14 +99,13 @@ module _ {F W : Type 0} (at : Reel F W) (total : ℕ) where
         → film_refused at.took_f at.refused_f at.took_w at.refused_w asked output new → Some fault ≡ new.fault
         → StopsThere (taken ++ output ∷ rest) taken new fault.output fault.count
     at-next joined (Sound sample) fault refused told =
-        let same = some-same fault (record { output = which.Wave; count = refused.told.count }) (told ∙ refused.fault) in
-        subst (λ it. StopsThere (taken ++ Sound sample ∷ rest) taken new it.output it.count) (sym same) (at-sample sample refused)
+        let same : fault ≡ record { output = which.Wave; count = refused.told.count } = cc in
+        rw same (at-wave (Sound sample) refused refl)
     at-next joined (Show image) fault (inl refused) told =
-        let same = some-same fault (record { output = which.Wave; count = refused.told.count }) (told ∙ refused.fault) in
-        subst (λ it. StopsThere (taken ++ Show image ∷ rest) taken new it.output it.count) (sym same) (at-flush image refused)
+        let same : fault ≡ record { output = which.Wave; count = refused.told.count } = cc in
+        rw same (at-wave (Show image) refused refl)
     at-next joined (Show image) fault (inr refused) told =
-        let same = some-same fault (record { output = which.Frames; count = refused.told.count }) (told ∙ refused.fault) in
-        subst (λ it. StopsThere (taken ++ Show image ∷ rest) taken new it.output it.count) (sym same) (at-image joined image refused)
+        let same : fault ≡ record { output = which.Frames; count = refused.told.count } = cc in rw same (at-image joined image refused)
 
   -- among all outputs of a run
   pub stops-among : (joined : Joins at.took_f) {given left : List Output} (outputs : List Output) (old new : Film F W) (fault : OutputFault)
@@ -155,8 +116,7 @@ module _ {F W : Type 0} (at : Reel F W) (total : ℕ) where
       let refuses = cut.refuses in
       let rest = refuses.rest ++ among.0 in
       let all : taken ++ (refuses.first ∷ rest) ≡ outputs = grind (arith, common_steps) in
-      subst (λ outputs. StopsThere outputs taken new fault.output fault.count) all
-      (at-next taken rest refuses.asked new (filmed at total taken begun refuses.before) joined refuses.first fault
+      rw all at (at-next taken rest refuses.asked new (filmed at total taken begun refuses.before) joined refuses.first fault
       refuses.refusal told)
 
   -- all were taken, and the zeros refused
@@ -165,17 +125,9 @@ module _ {F W : Type 0} (at : Reel F W) (total : ℕ) where
       → new.frames ≡ mid.frames → StopsThere outputs outputs new which.Wave told.count
   stops-at-zeros outputs mid new told has fails same =
       let silence = samples_text (replicate mid.wave.owed (pos 0)) in
-      subst (λ all. StopsThere all outputs new which.Wave told.count) (append-nil outputs)
-      (wave-fails outputs [] told new (record {
-        asked = mid;
-        has = has;
-        frames = same;
-        bytes = silence;
-        fails = fails;
-        more = [];
-        whole = cc (append-nil (wave_so_far total outputs ++ silence), zeros-last at total outputs mid has, append-nil outputs);
-        ends = λ n few. refl;
-      }))
+      rw append-nil at
+      (wave-fails outputs [] told mid new has same silence [] fails
+      (cc (append-nil (wave_so_far total outputs ++ silence), zeros-last at total outputs mid has, append-nil outputs)) (λ n few. refl))
 
   -- ---- a player's text was refused: what waited is written
 
@@ -183,8 +135,7 @@ module _ {F W : Type 0} (at : Reel F W) (total : ℕ) where
       → (answer : Result (Unit {0}) WriteFault) → FinishesSound at.took_w at.refused_w mid.wave [] answer wave_now
       → HasSoundOf (writing at.took_w at.refused_w at.wave wave_now.file.writer) total taken
   sound-of taken mid wave_now has (Ok done) finished =
-      inl (subst (λ (bytes : List ℕ). at.took_w at.wave bytes wave_now.file.writer) (append-nil (wave_so_far total taken))
-      (finished.after at.wave (wave_so_far total taken) has.sound).written)
+      inl (rw append-nil at (finished.after at.wave (wave_so_far total taken) has.sound).written)
   sound-of taken mid wave_now has (Err fault) fails =
       let stop = fails.after at.wave (wave_so_far total taken) has.sound in
       inr (record {

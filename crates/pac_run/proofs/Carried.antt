@@ -44,37 +44,26 @@ module _ {F G W V L K R Q : Type 0} (to : Writings F W L R) (other : Writings G 
     wave = sounds.takes _ at.wave;
     report = text-stops reports _ count at.report;
   }
-  cut run which.State count at = at
-  cut run which.Text count at = at
+  cut run _ count at = at
 
   pub runs : (inputs : RunInputs) (answer : Result Outcome RunFault) → Runs inputs to answer → Runs inputs other answer
   runs inputs (Ok outcome) ran = search rules
   runs inputs (Err (fault.Write output count)) ran =
       record { plan = ran.plan; plan_is = ran.plan_is; holds = cut (contents_of ran.plan inputs.dip) output count ran.holds }
   runs inputs (Err fault.NoMemory) none = nothing none
-  runs inputs (Err (fault.Source refusal)) (is, none) = (is, nothing none)
-  runs inputs (Err (fault.Set refusal)) (is, none) = (is, nothing none)
-  runs inputs (Err (fault.Script refusal)) (is, none) = (is, nothing none)
-  runs inputs (Err (fault.State refusal)) (is, none) = (is, nothing none)
+  runs inputs (Err _) ran = (ran.0, nothing ran.1)
 
   module _ {S : Type 0} (state : Writing S) (inputs : RunInputs) (from : Option (List ℕ)) where
     save-cut : (plan : Plan) (board : BoardValue) (output : Which) (count : ℕ)
         → IsSaveCutAt plan inputs.dip from to state output count board → IsSaveCutAt plan inputs.dip from other state output count board
     save-cut plan board which.State count (files, stops) = search rules
-    save-cut plan board which.Frames count (at, unsaved) = (cut (contents_from plan inputs.dip from board) which.Frames count at, unsaved)
-    save-cut plan board which.Wave count (at, unsaved) = (cut (contents_from plan inputs.dip from board) which.Wave count at, unsaved)
-    save-cut plan board which.Listing count (at, unsaved) = (cut (contents_from plan inputs.dip from board) which.Listing count at, unsaved)
-    save-cut plan board which.Report count (at, unsaved) = (cut (contents_from plan inputs.dip from board) which.Report count at, unsaved)
-    save-cut plan board which.Text count (at, unsaved) = (at, unsaved)
+    save-cut plan board output count it = (cut (contents_from plan inputs.dip from board) output count it.0, it.1)
 
     pub resumes : (answer : Result Outcome RunFault) → Resumes inputs from to state answer → Resumes inputs from other state answer
     resumes (Ok outcome) ran = search rules
     resumes (Err (fault.Write output count)) ran = grind (arith, save-cut)
     resumes (Err fault.NoMemory) (none, unsaved) = (nothing none, unsaved)
-    resumes (Err (fault.Source refusal)) (is, none, unsaved) = (is, nothing none, unsaved)
-    resumes (Err (fault.Set refusal)) (is, none, unsaved) = (is, nothing none, unsaved)
-    resumes (Err (fault.Script refusal)) (is, none, unsaved) = (is, nothing none, unsaved)
-    resumes (Err (fault.State refusal)) (is, none, unsaved) = (is, nothing none, unsaved)
+    resumes (Err _) ran = (ran.0, nothing ran.1, ran.2)
 
   module _ {T U : Type 0} (words : Writing T) (other_words : Writing U) (tells : Carries words other_words) (inputs : RunInputs)
       (commands : List ℕ) where
@@ -84,11 +73,9 @@ module _ {F G W V L K R Q : Type 0} (to : Writings F W L R) (other : Writings G 
     broken plan which.Report count (at, told) = search rules
     broken plan which.Frames count (at, told) =
         (cut (contents_of plan inputs.dip) which.Frames count at, told-till tells (setting_of_plan plan inputs.dip) (lines commands) _ told)
-    broken plan which.Wave count (at, told) = (
-      cut (contents_of plan inputs.dip) which.Wave count at,
-      told-at-wave tells (setting_of_plan plan inputs.dip) (lines commands) _ _
-          told,
-    )
+    broken plan which.Wave count (at, told) =
+        let wave = told-at-wave tells (setting_of_plan plan inputs.dip) (lines commands) _ _ told in
+        (cut (contents_of plan inputs.dip) which.Wave count at, wave)
     broken plan which.Text count at = grind (arith, line-untold)
     broken plan which.State count none = none
 
@@ -97,7 +84,4 @@ module _ {F G W V L K R Q : Type 0} (to : Writings F W L R) (other : Writings G 
     debugs (Ok outcome) ran = search rules
     debugs (Err (fault.Write output count)) ran = grind (arith, broken)
     debugs (Err fault.NoMemory) (none, silent) = (nothing none, tells.still silent)
-    debugs (Err (fault.Source refusal)) (is, none, silent) = (is, nothing none, tells.still silent)
-    debugs (Err (fault.Set refusal)) (is, none, silent) = (is, nothing none, tells.still silent)
-    debugs (Err (fault.Script refusal)) (is, none, silent) = (is, nothing none, tells.still silent)
-    debugs (Err (fault.State refusal)) (is, none, silent) = (is, nothing none, tells.still silent)
+    debugs (Err _) ran = (ran.0, nothing ran.1, tells.still ran.2)

@@ -39,8 +39,7 @@ run-grown set items play board =
     let ask = by_history set items board.state.now.board in
     let from = without_history board.state.now in
     let has = grown (resumed_step ask play (frames_gone from)) (resumed_end play (frames_gone from))
-    (play-timely ask (λ frame. play.held (frame - frames_gone from))) (resumed_start ask play from)
-    (resumed_end play (frames_gone from)) in
+    (play-timely ask (λ frame. play.held (frame - frames_gone from))) (resumed_start ask play from) (resumed_end play (frames_gone from)) in
     (has.time, has.steps)
 
 -- ---- between two frames
@@ -68,105 +67,101 @@ pub record JoinsRuns (set : Parts) (first second : Play) (board saved : BoardVal
   pub state : end_state set second.frames saved two ≡ end_state set (first.frames + second.frames) board whole
   pub outcome : outcomes_joined (outcome_since board one) (outcome_since saved two) ≡ outcome_since board whole
 
-module _ (set : Parts) (items : List Item) (first second : Play) (board : BoardValue) (whole : IsWhole set)
-    (lie : AllLie set.program items) (holds : IsBoard board.state.now.board) (between : is_between_frames board.state ≡ true)
-    (open_yet : (run_of_play set items first board).stop ≡ None)
-  where
-    abbrev one : Walk (List Entry)
-    one = run_of_play set items first board
+module _ (set : Parts) (items : List Item) (first second : Play) (board : BoardValue) (whole : IsWhole set) (lie : AllLie set.program items)
+    (holds : IsBoard board.state.now.board) (between : is_between_frames board.state ≡ true)
+    (open_yet : (run_of_play set items first board).stop ≡ None) where
+  abbrev one : Walk (List Entry)
+  one = run_of_play set items first board
 
-    abbrev saved : BoardValue
-    saved = board_of_end set first board one
+  abbrev saved : BoardValue
+  saved = board_of_end set first board one
 
-    near : board.state.now.time % frame_ticks < sample_ticks
-    near = is-near board.state between
+  near : board.state.now.time % frame_ticks < sample_ticks
+  near = is-near board.state between
 
-    pub has-frames : HasItsFrames (by_history set items board.state.now.board) first (without_history board.state.now)
-    has-frames =
-        resumed-runs-have-their-frames (by_history set items board.state.now.board) first (without_history board.state.now) open_yet
+  pub has-frames : HasItsFrames (by_history set items board.state.now.board) first (without_history board.state.now)
+  has-frames = resumed-runs-have-their-frames (by_history set items board.state.now.board) first (without_history board.state.now) open_yet
 
-    pub still-between : is_between_frames saved.state ≡ true
-    still-between = let e = has-frames.near near in grind (arith, nat_tests)
+  pub still-between : is_between_frames saved.state ≡ true
+  still-between = let e = has-frames.near near in grind (arith, nat_tests)
 
-    -- the first run, told by the view
-    abbrev first_viewed : Walk BoardView
-    first_viewed = resumed (by_view set) first board.state.now
+  -- the first run, told by the view
+  abbrev first_viewed : Walk BoardView
+  first_viewed = resumed (by_view set) first board.state.now
 
-    one-viewed : walk_view (board_after_entries set board.state.now.board) one ≡ first_viewed
-    one-viewed =
-        (resumed-runs-agree set items board.state.now.board first (without_history board.state.now) whole lie holds).whole
+  one-viewed : walk_view (board_after_entries set board.state.now.board) one ≡ first_viewed
+  one-viewed = (resumed-runs-agree set items board.state.now.board first (without_history board.state.now) whole lie holds).whole
 
-    module _ (held : IsBoard saved.state.now.board) where
-      abbrev two : Walk (List Entry)
-      two = run_of_play set items second saved
+  module _ (held : IsBoard saved.state.now.board) where
+    abbrev two : Walk (List Entry)
+    two = run_of_play set items second saved
 
-      abbrev all : Walk (List Entry)
-      all = run_of_play set items (plays_joined first second) board
+    abbrev all : Walk (List Entry)
+    all = run_of_play set items (plays_joined first second) board
 
-      two-viewed : walk_view (board_after_entries set saved.state.now.board) two ≡ resumed (by_view set) second first_viewed.now
-      two-viewed =
-          (resumed-runs-agree set items saved.state.now.board second (without_history saved.state.now) whole lie held).whole
-          ∙ ap (λ (run : Walk BoardView). resumed (by_view set) second run.now) one-viewed
+    two-viewed : walk_view (board_after_entries set saved.state.now.board) two ≡ resumed (by_view set) second first_viewed.now
+    two-viewed =
+        (resumed-runs-agree set items saved.state.now.board second (without_history saved.state.now) whole lie held).whole
+        ∙ ap (λ (run : Walk BoardView). resumed (by_view set) second run.now) one-viewed
 
-      all-viewed : walk_view (board_after_entries set board.state.now.board) all
-          ≡ resumed (by_view set) (plays_joined first second) board.state.now
-      all-viewed =
-          (resumed-runs-agree set items board.state.now.board (plays_joined first second) (without_history board.state.now) whole lie
-          holds).whole
+    all-viewed : walk_view (board_after_entries set board.state.now.board) all
+        ≡ resumed (by_view set) (plays_joined first second) board.state.now
+    all-viewed =
+        (resumed-runs-agree set items board.state.now.board (plays_joined first second) (without_history board.state.now) whole lie
+        holds).whole
 
-      joins : JoinsPlays (by_view set) first second board.state.now
-      joins = plays-join set first second board.state.now (sym (ap (λ (run : Walk BoardView). run.stop) one-viewed) ∙ open_yet)
+    joins : JoinsPlays (by_view set) first second board.state.now
+    joins = plays-join set first second board.state.now (sym (ap (λ (run : Walk BoardView). run.stop) one-viewed) ∙ open_yet)
 
-      -- what they give, and where they end
-      outputs-joined : one.outputs ++ two.outputs ≡ all.outputs
-      outputs-joined = grind (arith, all-viewed, joins, one-viewed, two-viewed)
+    -- what they give, and where they end
+    outputs-joined : one.outputs ++ two.outputs ≡ all.outputs
+    outputs-joined = grind (arith, all-viewed, joins, one-viewed, two-viewed)
 
-      ends-joined : (walk_view (board_after_entries set saved.state.now.board) two).now
-          ≡ (walk_view (board_after_entries set board.state.now.board) all).now
-      ends-joined =
-          ap (λ (run : Walk BoardView). run.now) two-viewed ∙ joins.now ∙ sym (ap (λ (run : Walk BoardView). run.now) all-viewed)
+    ends-joined : (walk_view (board_after_entries set saved.state.now.board) two).now
+        ≡ (walk_view (board_after_entries set board.state.now.board) all).now
+    ends-joined = ap (λ (run : Walk BoardView). run.now) two-viewed ∙ joins.now ∙ sym (ap (λ (run : Walk BoardView). run.now) all-viewed)
 
-      stops-joined : two.stop ≡ all.stop
-      stops-joined = grind (arith, all-viewed, joins, two-viewed)
+    stops-joined : two.stop ≡ all.stop
+    stops-joined = grind (arith, all-viewed, joins, two-viewed)
 
-      -- the sound of the first half has all of its samples, and no zeros
-      samples-whole : length (samples_in one.outputs) ≡ frame_samples * first.frames
-      samples-whole = samples-counted one.outputs ∙ has-frames.samples near
+    -- the sound of the first half has all of its samples, and no zeros
+    samples-whole : length (samples_in one.outputs) ≡ frame_samples * first.frames
+    samples-whole = samples-counted one.outputs ∙ has-frames.samples near
 
-      no-zeros : frames_sound first.frames one.outputs ≡ samples_text (samples_in one.outputs)
-      no-zeros =
-          let count : frame_samples * first.frames - length (samples_in one.outputs) ≡ 0 = omega (arith, samples-whole) in search rules
+    no-zeros : frames_sound first.frames one.outputs ≡ samples_text (samples_in one.outputs)
+    no-zeros =
+        let count : frame_samples * first.frames - length (samples_in one.outputs) ≡ 0 = omega (arith, samples-whole) in search rules
 
-      same-zeros : frame_samples * second.frames - length (samples_in two.outputs)
-          ≡ frame_samples * (first.frames + second.frames) - length (samples_in (one.outputs ++ two.outputs))
-      same-zeros =
-          let sum = ap length (samples-append one.outputs two.outputs) ∙ length-append (samples_in one.outputs) (samples_in two.outputs) in
-          omega (arith, sum, samples-whole)
+    same-zeros : frame_samples * second.frames - length (samples_in two.outputs)
+        ≡ frame_samples * (first.frames + second.frames) - length (samples_in (one.outputs ++ two.outputs))
+    same-zeros =
+        let sum = ap length (samples-append one.outputs two.outputs) ∙ length-append (samples_in one.outputs) (samples_in two.outputs) in
+        omega (arith, sum, samples-whole)
 
-      sound-joined : frames_sound first.frames one.outputs ++ frames_sound second.frames two.outputs
-          ≡ frames_sound (first.frames + second.frames) all.outputs
-      sound-joined = grind (arith, no-zeros, outputs-joined, same-zeros, sound-append)
+    sound-joined : frames_sound first.frames one.outputs ++ frames_sound second.frames two.outputs
+        ≡ frames_sound (first.frames + second.frames) all.outputs
+    sound-joined = grind (arith, no-zeros, outputs-joined, same-zeros, sound-append)
 
-      -- the microseconds asked for
-      asked-joined : frame_microseconds * frames_asked first.frames board one + frame_microseconds * frames_asked second.frames saved two
-          ≡ frame_microseconds * frames_asked (first.frames + second.frames) board all
-      asked-joined =
-          omega (arith, has-frames.gone, ap (λ (now : Moment BoardView). now.time) ends-joined, (run-grown set items second saved).0)
+    -- the microseconds asked for
+    asked-joined : frame_microseconds * frames_asked first.frames board one + frame_microseconds * frames_asked second.frames saved two
+        ≡ frame_microseconds * frames_asked (first.frames + second.frames) board all
+    asked-joined =
+        omega (arith, has-frames.gone, ap (λ (now : Moment BoardView). now.time) ends-joined, (run-grown set items second saved).0)
 
-      states-joined : end_state set second.frames saved two ≡ end_state set (first.frames + second.frames) board all
-      states-joined = grind (arith, asked-joined, ends-joined)
+    states-joined : end_state set second.frames saved two ≡ end_state set (first.frames + second.frames) board all
+    states-joined = grind (arith, asked-joined, ends-joined)
 
-      -- what they came to
-      pub runs-joined : JoinsRuns set first second board saved one two all
-      runs-joined =
-          let ends = ends-joined in
-          let one_grown = run-grown set items first board in
-          let two_grown = run-grown set items second saved in
-          let frames : picture_count one.outputs + picture_count two.outputs ≡ picture_count all.outputs =
-          sym (pictures-counted one.outputs two.outputs) ∙ ap picture_count outputs-joined in
-          let steps = ap (λ (now : Moment BoardView). now.steps) ends in
-          let all_steps : (one.now.steps - board.state.now.steps) + (two.now.steps - one.now.steps) ≡ all.now.steps - board.state.now.steps
-          = omega (arith, steps, one_grown.1, two_grown.1) in
-          let all_ticks : (one.now.time - board.state.now.time) + (two.now.time - one.now.time) ≡ all.now.time - board.state.now.time
-          = omega (arith, ap (λ (now : Moment BoardView). now.time) ends, one_grown.0, two_grown.0) in
-          grind (arith, frames-append, outputs-joined, sound-joined, states-joined, stops-joined)
+    -- what they came to
+    pub runs-joined : JoinsRuns set first second board saved one two all
+    runs-joined =
+        let ends = ends-joined in
+        let one_grown = run-grown set items first board in
+        let two_grown = run-grown set items second saved in
+        let frames : picture_count one.outputs + picture_count two.outputs ≡ picture_count all.outputs =
+        sym (pictures-counted one.outputs two.outputs) ∙ ap picture_count outputs-joined in
+        let steps = ap (λ (now : Moment BoardView). now.steps) ends in
+        let all_steps : (one.now.steps - board.state.now.steps) + (two.now.steps - one.now.steps) ≡ all.now.steps - board.state.now.steps
+        = omega (arith, steps, one_grown.1, two_grown.1) in
+        let all_ticks : (one.now.time - board.state.now.time) + (two.now.time - one.now.time) ≡ all.now.time - board.state.now.time
+        = omega (arith, ap (λ (now : Moment BoardView). now.time) ends, one_grown.0, two_grown.0) in
+        grind (arith, frames-append, outputs-joined, sound-joined, states-joined, stops-joined)

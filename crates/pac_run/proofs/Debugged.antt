@@ -1,9 +1,8 @@
 -- The answers of a run under a debugger, one by one.
-use Rattle.pac_run.proofs.Common.{Assembled, Debugs, Err, IsBrokenAt, IsOutcome, IsPrepared, IsReady, IsRunWhole, IsUntold, IsUnwritten}
-use Rattle.pac_run.proofs.Common.{List, None, NothingWritten, Ok, Option, Outcome, Output, Plan, Played, Prepared, Prepares, Result}
-use Rattle.pac_run.proofs.Common.{RunFault, RunInputs, SessionValue, Setting, TextBreaks, ToldAtWave, WaveBreaks, WritesPlay, Writing}
-use Rattle.pac_run.proofs.Common.{Writings, arith, contents_of, lines, plan_with, rules, session_at_start, session_played, setting_of_plan}
-use Rattle.pac_run.proofs.Common.{subst, sym, told_played, trace_of, ℕ, ◌≡◌}
+use Rattle.pac_run.proofs.Common.{Assembled, Debugs, Err, IsBrokenAt, IsOutcome, IsPrepared, IsReady, IsRunWhole, IsUnwritten, List, None}
+use Rattle.pac_run.proofs.Common.{NothingWritten, Ok, Option, Outcome, Output, Plan, Played, Prepared, Prepares, Result, RunFault}
+use Rattle.pac_run.proofs.Common.{RunInputs, SessionValue, Setting, WritesPlay, Writing, Writings, arith, contents_of, lines, plan_with}
+use Rattle.pac_run.proofs.Common.{rules, session_at_start, session_played, setting_of_plan, subst, told_played, trace_of, ℕ, ◌≡◌}
 use Rattle.pac_run.specs.declared.fault.Output.{Output as Which}
 use Rattle.pac_run.specs.declared.fault.Output.TheVariants as which
 use Rattle.pac_run.specs.declared.fault.RunFault.TheVariants as fault
@@ -47,24 +46,14 @@ module _ {F W L R T : Type 0} (inputs : RunInputs) (commands : List ℕ) (to : W
     whole : (outcome : Outcome) → WritesPlay played plan.listing to (Ok outcome) → IsRunWhole (contents_of plan inputs.dip) to outcome
     whole outcome it = let same = session-outcome inputs program session ready outcome it.film.done.outcome_is in search rules
 
-    unreported : (count : ℕ) → WritesPlay played plan.listing to (Err (fault.Write which.Report count))
-        → IsBrokenAt plan inputs.dip commands to words which.Report count
-    unreported count it = let same = session-outcome inputs program session ready it.outcome it.film.done.outcome_is in search rules
-
-    told-at-wave : (count : ℕ) (it : WaveBreaks played to.frames to.wave count)
-        → ToldAtWave words setting (lines commands) outputs it.film.sound.taken
-    told-at-wave count it = search rules
-
-    untold : (count : ℕ) → TextBreaks played to.frames to.wave count → IsUntold plan inputs.dip commands to words count
-    untold count it = search rules
-
     broken : (output : Which) (count : ℕ) → WritesPlay played plan.listing to (Err (fault.Write output count))
         → IsBrokenAt plan inputs.dip commands to words output count
     broken which.Listing count it = search rules
-    broken which.Report count it = unreported count it
+    broken which.Report count it =
+        let same = session-outcome inputs program session ready it.outcome it.film.done.outcome_is in search rules
     broken which.Frames count it = (record { listing = it.listing; film = it.film.0; report = it.report }, it.film.1)
-    broken which.Wave count it = (record { listing = it.listing; film = it.film.film; report = it.report }, told-at-wave count it.film)
-    broken which.Text count it = record { listing = it.listing; report = it.report; untold = untold count it.film }
+    broken which.Wave count it = (record { listing = it.listing; film = it.film.film; report = it.report }, search rules)
+    broken which.Text count it = record { listing = it.listing; report = it.report; untold = search rules }
     broken which.State count it = absurd it.film
 
     by-answer : (answer : Result Outcome RunFault) → WritesPlay played plan.listing to answer → Debugs inputs commands to words answer
@@ -76,9 +65,5 @@ module _ {F W L R T : Type 0} (inputs : RunInputs) (commands : List ℕ) (to : W
         → WritesPlay (session_played words session (lines commands) unplayed) plan.listing to answer
         → Debugs inputs commands to words answer
     debugged answer it =
-        let Writes : Setting → List Output → Type 0 =
-        λ (setting : Setting) (outputs : List Output).
-        WritesPlay (told_played words setting outputs (IsOutcome session) (lines commands) unplayed) plan.listing to answer in
         by-answer answer
-        (subst (λ setting. Writes setting outputs) (sym (same-setting inputs program session ready))
-        (subst (λ outputs. Writes session.setting outputs) (session-outputs inputs program session ready) it))
+        (rw (same-setting inputs program session ready, ← session-outputs inputs program session ready) it)

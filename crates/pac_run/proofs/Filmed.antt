@@ -1,9 +1,9 @@
 -- What a film and a wave file have after the outputs of a list.
-use Rattle.pac_run.proofs.Common.{Counted, Film, HasBegun, HasTaken, HasText, Image, List, Output, Reel, Show, Sound, TookAll, TookImage}
-use Rattle.pac_run.proofs.Common.{TookSample, [], ap, append-nil, append_assoc, arith, film_took, flat_map, flat_map-append, frame_samples}
-use Rattle.pac_run.proofs.Common.{header_size, image_bytes, images_text, length, length-append, outputs_before, picture_count, pos, refl}
-use Rattle.pac_run.proofs.Common.{replicate, rules, sample_bytes, sample_text, samples_in, samples_text, sound_text, subst, sym, wav_header}
-use Rattle.pac_run.proofs.Common.{wave_file_text, wave_so_far, ℕ, ℤ, ◌*◌, ◌++◌, ◌+◌, ◌-◌, ◌∙◌, ◌∷◌, ◌≡◌, ◌≤◌}
+use Rattle.pac_run.proofs.Common.{Film, HasBegun, HasTaken, HasText, Image, List, Output, Reel, Show, Sound, TookAll, TookImage, TookSample}
+use Rattle.pac_run.proofs.Common.{[], ap, append-nil, append_assoc, arith, film_took, flat_map, flat_map-append, frame_samples, header_size}
+use Rattle.pac_run.proofs.Common.{image_bytes, images_text, length, length-append, outputs_before, picture_count, pos, refl, replicate}
+use Rattle.pac_run.proofs.Common.{rules, sample_bytes, sample_text, samples_in, samples_text, sound_text, sym, wav_header, wave_file_text}
+use Rattle.pac_run.proofs.Common.{wave_so_far, ℕ, ℤ, ◌*◌, ◌++◌, ◌+◌, ◌-◌, ◌∙◌, ◌∷◌, ◌≡◌, ◌≤◌}
 use Rattle.pac_run.proofs.Heard.{all-before, frames-append, pictures-counted, samples-add-none, size, sound-bytes}
 
 -- ---- texts of lists that are put together
@@ -16,8 +16,7 @@ samples-append (Show image ∷ one) other = samples-append one other
 -- the sound of a list begins with that of its beginning
 pub sound-append : (owed : ℕ) (one other : List Output)
     → samples_text (samples_in one)
-    ++ samples_text (samples_in other ++ replicate (owed - length (samples_in (one ++ other))) (pos 0))
-    ≡ sound_text owed (one ++ other)
+    ++ samples_text (samples_in other ++ replicate (owed - length (samples_in (one ++ other))) (pos 0)) ≡ sound_text owed (one ++ other)
 sound-append owed one other =
     let zeros = replicate (owed - length (samples_in (one ++ other))) (pos 0) in
     sym (flat_map-append sample_text (samples_in one) (samples_in other ++ zeros))
@@ -52,7 +51,8 @@ module _ (total : ℕ) where
 
   pub wave-long : (taken : List Output) → length (wave_so_far total taken) ≡ header_size + size sample_bytes taken
   wave-long taken =
-      omega (arith, length-append head (samples_text (samples_in taken)), header-long (frame_samples * total), ap length (sound-bytes taken))
+      let heard = ap length (sound-bytes taken) in
+      omega (arith, length-append head (samples_text (samples_in taken)), header-long (frame_samples * total), heard)
 
 module _ {F W : Type 0} (at : Reel F W) (total : ℕ) where
   -- These outputs were taken. What waits of the sound came after the last picture.
@@ -69,8 +69,8 @@ module _ {F W : Type 0} (at : Reel F W) (total : ℕ) where
       record {
         images = it.images;
         sound = search rules;
-        owed = let owed = it.owed in omega (arith, owed);
-        past_header = let long = header-long (frame_samples * total) in omega (arith, long);
+        owed = omega (arith, it.owed);
+        past_header = omega (arith, header-long (frame_samples * total));
         settled = λ n enough. refl;
       }
 
@@ -81,15 +81,11 @@ module _ {F W : Type 0} (at : Reel F W) (total : ℕ) where
       let later = took.wave.after at.wave (wave_so_far total taken) has.sound in
       let further = took.wave.further at.wave (wave_so_far total taken) has.sound in
       record {
-        images = subst (λ (bytes : List ℕ). HasTaken at.took_f at.frames bytes new.frames)
-            (sym (frames-append taken (Sound sample ∷ []) ∙ append-nil (images_text taken)))
-            (subst (λ (file : Counted F). HasTaken at.took_f at.frames (images_text taken) file) (sym took.frames) has.images);
+        images = rw (frames-append taken (Sound sample ∷ []) ∙ append-nil (images_text taken), took.frames) has.images;
         sound = grind (arith, wave-more);
-        owed = let one = took.owed in let before = has.owed in
-            let long = ap length (samples-append taken (Sound sample ∷ []))
-            ∙ length-append (samples_in taken) (sample ∷ []) in
-            omega (arith, one, before, long);
-        past_header = let least = has.past_header in omega (arith, least, further);
+        owed = let long = ap length (samples-append taken (Sound sample ∷ [])) ∙ length-append (samples_in taken) (sample ∷ []) in
+            omega (arith, took.owed, has.owed, long);
+        past_header = omega (arith, has.past_header, further);
         settled = grind (arith, pictures-counted, samples-add-none);
       }
 
@@ -99,21 +95,16 @@ module _ {F W : Type 0} (at : Reel F W) (total : ℕ) where
   image-more taken image old new has took =
       let all = append-nil (wave_so_far total taken) in
       record {
-        images = subst (λ (bytes : List ℕ). HasTaken at.took_f at.frames bytes new.frames)
-            (cc (append-nil (image_bytes (Show image)), frames-append taken (Show image ∷ [])))
+        images = rw (frames-append taken (Show image ∷ []), append-nil (image_bytes (Show image)))
             (took.frames.after at.frames (images_text taken) has.images);
         sound = grind (arith, wave-more);
-        owed = let same = took.owed in let long = ap length (samples-append taken (Show image ∷ []) ∙ append-nil (samples_in taken)) in
-            omega (arith, same, long);
-        past_header = let long = wave-long total taken in let same = ap length all in omega (arith, long, same);
+        owed = omega (arith, took.owed, ap length (samples-append taken (Show image ∷ []) ∙ append-nil (samples_in taken)));
+        past_header = omega (arith, wave-long total taken, ap length all);
         settled = λ n enough.
-            let long = wave-long total taken in let same = ap length all in
-            let joined = size-one taken image in
-            ap picture_count (all-before sample_bytes n (taken ++ Show image ∷ []) (omega (arith, enough, long, same, joined)));
+            let joined = ap length (flat_map-append sample_bytes taken (Show image ∷ []) ∙ append-nil (flat_map sample_bytes taken)) in
+            ap picture_count
+            (all-before sample_bytes n (taken ++ Show image ∷ []) (omega (arith, enough, wave-long total taken, ap length all, joined)));
       }
-    where
-      size-one : (taken : List Output) (image : Image) → size sample_bytes (taken ++ Show image ∷ []) ≡ size sample_bytes taken
-      size-one taken image = ap length (flat_map-append sample_bytes taken (Show image ∷ []) ∙ append-nil (flat_map sample_bytes taken))
 
   one-more : (taken : List Output) (output : Output) (old new : Film F W) → Filmed taken old → film_took at.took_f at.took_w old output new
       → Filmed (taken ++ output ∷ []) new
@@ -121,18 +112,14 @@ module _ {F W : Type 0} (at : Reel F W) (total : ℕ) where
   one-more taken (Show image) old new has took = image-more taken image old new has took
 
   all-more : (before outputs : List Output) (old new : Film F W) → Filmed before old
-      → TookAll (film_took at.took_f at.took_w) old outputs new
-      → Filmed (before ++ outputs) new
-  all-more before [] old new has same =
-      subst (λ (outputs : List Output). Filmed outputs new) (sym (append-nil before))
-      (subst (λ (film : Film F W). Filmed before film) (sym same) has)
+      → TookAll (film_took at.took_f at.took_w) old outputs new → Filmed (before ++ outputs) new
+  all-more before [] old new has same = rw (append-nil, same) has
   all-more before (output ∷ more) old new has took =
-      subst (λ (outputs : List Output). Filmed outputs new) (append_assoc before (output ∷ []) more)
+      rw append_assoc at
       (all-more (before ++ output ∷ []) more took.between new (one-more before output old took.between has took.before) took.after)
 
   pub filmed : (outputs : List Output) {old new : Film F W} → HasBegun at total old
-      → TookAll (film_took at.took_f at.took_w) old outputs new
-      → Filmed outputs new
+      → TookAll (film_took at.took_f at.took_w) old outputs new → Filmed outputs new
   filmed outputs {old} {new} begun took = all-more [] outputs old new (at-first old begun) took
 
   -- the zeros, at last

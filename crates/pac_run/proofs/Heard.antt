@@ -1,8 +1,8 @@
 -- What comes before a byte among outputs: all of a first part and something of a second, or something of the first.
-use Rattle.pac_run.proofs.Common.{Bool, List, Output, Show, Sound, [], ap, append-nil, arith, false, flat_map, flat_map-append}
-use Rattle.pac_run.proofs.Common.{if◌then◌else◌, image_bytes, images_text, length, length-append, nat_le, nat_tests, outputs_before}
-use Rattle.pac_run.proofs.Common.{picture_count, refl, rules, sample_bytes, sample_text, samples_in, samples_text, sym, true, ℕ, ◌++◌, ◌+◌}
-use Rattle.pac_run.proofs.Common.{◌-◌, ◌<◌, ◌∙◌, ◌∷◌, ◌≡◌, ◌≤◌}
+use Rattle.std.proofs.lemmas.Bool.{cases_lt}
+use Rattle.pac_run.proofs.Common.{List, Output, Show, Sound, [], ap, append-nil, arith, flat_map, flat_map-append, image_bytes, images_text}
+use Rattle.pac_run.proofs.Common.{inl, inr, length, length-append, nat_tests, outputs_before, picture_count, refl, rules, sample_bytes}
+use Rattle.pac_run.proofs.Common.{sample_text, samples_in, samples_text, sym, ℕ, ◌++◌, ◌+◌, ◌-◌, ◌<◌, ◌∙◌, ◌∷◌, ◌≡◌, ◌≤◌}
 
 -- ---- counts and texts of lists that are put together
 
@@ -27,9 +27,6 @@ sound-bytes (Sound sample ∷ more) = ap (λ rest. sample_text sample ++ rest) (
 sound-bytes (Show image ∷ more) = sound-bytes more
 
 -- ---- before a byte
-
-not-chosen : {A : Type 0} (test : Bool) (one other : A) → test ≡ false → (if test then one else other) ≡ other
-not-chosen test one other is = search rules
 
 module _ (bytes : Output → List ℕ) where
   abbrev pub size : List Output → ℕ
@@ -58,42 +55,32 @@ module _ (bytes : Output → List ℕ) where
       first ∙ ap (λ more. output ∷ more) (rest ∙ ap (λ m. one ++ outputs_before bytes m other) count)
 
   pub all-before : (n : ℕ) (outputs : List Output) → size outputs ≤ n → outputs_before bytes n outputs ≡ outputs
-  all-before n outputs less =
-      ap (outputs_before bytes n) (sym (append-nil outputs)) ∙ (before-past n outputs [] less ∙ append-nil outputs)
+  all-before n outputs less = ap (outputs_before bytes n) (sym (append-nil outputs)) ∙ (before-past n outputs [] less ∙ append-nil outputs)
 
   -- the byte is in a first part
-  step-within : (n : ℕ) (output : Output) (one other : List Output) (test : Bool) → nat_le (length (bytes output)) n ≡ test
-      → (test ≡ true → outputs_before bytes (n - length (bytes output)) (one ++ other)
-      ≡ outputs_before bytes (n - length (bytes output)) one)
-      → outputs_before bytes n ((output ∷ one) ++ other) ≡ outputs_before bytes n (output ∷ one)
-  step-within n output one other test is rest = search rules
-
-  pub before-within : (n : ℕ) (one other : List Output) → n < size one
-      → outputs_before bytes n (one ++ other) ≡ outputs_before bytes n one
+  pub before-within : (n : ℕ) (one other : List Output) → n < size one → outputs_before bytes n (one ++ other) ≡ outputs_before bytes n one
   before-within n [] other less = absurd (omega (arith, less))
-  before-within n (output ∷ one) other less =
-      step-within n output one other (nat_le (length (bytes output)) n) refl
-      (λ is. let enough : length (bytes output) ≤ n = grind (arith, nat_tests) in
-      before-within (n - length (bytes output)) one other (omega (arith, size-more output one, less, enough)))
+  before-within n (output ∷ one) other less = elim (cases_lt n (length (bytes output))) [
+    | inl few ↦ ends-there n output (one ++ other) few ∙ sym (ends-there n output one few)
+    | inr enough ↦
+        let rest = before-within (n - length (bytes output)) one other (omega (arith, size-more output one, less, enough)) in
+        goes-on n output (one ++ other) enough ∙ ap (λ more. output ∷ more) rest ∙ sym (goes-on n output one enough)
+  ]
 
   -- what comes before is a first part
   pub record Parts (n : ℕ) (outputs : List Output) : Type 0 where
     pub rest : List Output
     pub parts : outputs ≡ outputs_before bytes n outputs ++ rest
 
-  part-more : (n : ℕ) (output : Output) (more : List Output) (test : Bool) → nat_le (length (bytes output)) n ≡ test
-      → Parts (n - length (bytes output)) more → Parts n (output ∷ more)
-  part-more n output more true is later = search rules
-  part-more n output more false is later =
-      record {
-        rest = output ∷ more;
-        parts = grind (arith, not-chosen);
-      }
-
   pub parts-of : (n : ℕ) (outputs : List Output) → Parts n outputs
   parts-of n [] = record { rest = []; parts = refl }
-  parts-of n (output ∷ more) =
-      part-more n output more (nat_le (length (bytes output)) n) refl (parts-of (n - length (bytes output)) more)
+  parts-of n (output ∷ more) = elim (cases_lt n (length (bytes output))) [
+    | inl few ↦ record { rest = output ∷ more; parts = ap (λ before. before ++ output ∷ more) (sym (ends-there n output more few)) }
+    | inr enough ↦
+        let later = parts-of (n - length (bytes output)) more in
+        let first = ap (λ before. before ++ later.rest) (sym (goes-on n output more enough)) in
+        record { rest = later.rest; parts = ap (λ left. output ∷ left) later.parts ∙ first }
+  ]
 
 -- ---- what a wave that refuses has heard
 
@@ -108,27 +95,19 @@ pub record IsHeard (n : ℕ) (outputs taken : List Output) : Type 0 where
   pub parts : taken ≡ outputs_before sample_bytes n outputs ++ waiting
   pub no_picture : picture_count waiting ≡ 0
 
-module _ (n : ℕ) (taken left : List Output)
-    (settled : picture_count (outputs_before sample_bytes n taken) ≡ picture_count taken)
+module _ (n : ℕ) (taken left : List Output) (settled : picture_count (outputs_before sample_bytes n taken) ≡ picture_count taken)
     (past : size sample_bytes taken ≤ n → outputs_before sample_bytes (n - size sample_bytes taken) left ≡ []) where
-  heard-by : (test : Bool) → nat_le (size sample_bytes taken) n ≡ test → IsHeard n (taken ++ left) taken
-  heard-by true is =
-      let enough : size sample_bytes taken ≤ n = grind (arith, nat_tests) in
-      record {
-        waiting = [];
-        parts = sym (append-nil (outputs_before sample_bytes n (taken ++ left))
-            ∙ (before-past sample_bytes n taken left enough ∙ (ap (λ more. taken ++ more) (past enough) ∙ append-nil taken)));
-        no_picture = refl;
-      }
-  heard-by false is =
-      let within : n < size sample_bytes taken = grind (arith, nat_tests) in
-      let split = parts-of sample_bytes n taken in
-      let same = before-within sample_bytes n taken left within in
-      let count = pictures-counted (outputs_before sample_bytes n taken) split.rest in
-      let all = ap picture_count split.parts in search rules
-
   pub is-heard : IsHeard n (taken ++ left) taken
-  is-heard = heard-by (nat_le (size sample_bytes taken) n) refl
+  is-heard = elim (cases_lt n (size sample_bytes taken)) [
+    | inl within ↦
+        let split = parts-of sample_bytes n taken in
+        let same = before-within sample_bytes n taken left within in
+        let count = pictures-counted (outputs_before sample_bytes n taken) split.rest in
+        let all = ap picture_count split.parts in search rules
+    | inr enough ↦
+        let whole = before-past sample_bytes n taken left enough ∙ ap (λ more. taken ++ more) (past enough) ∙ append-nil taken in
+        record { waiting = []; parts = sym (append-nil (outputs_before sample_bytes n (taken ++ left)) ∙ whole); no_picture = refl }
+  ]
 
 -- and the images are the same
 pub heard-images : (n : ℕ) (outputs taken : List Output) → IsHeard n outputs taken
@@ -140,8 +119,7 @@ heard-images n outputs taken heard =
 -- ---- what was shown before an image that was refused
 
 pub is-shown : (n : ℕ) (taken : List Output) (image : _) (more : List Output) → size image_bytes taken ≤ n
-    → n < size image_bytes taken + length (image_bytes (Show image))
-    → outputs_before image_bytes n (taken ++ Show image ∷ more) ≡ taken
+    → n < size image_bytes taken + length (image_bytes (Show image)) → outputs_before image_bytes n (taken ++ Show image ∷ more) ≡ taken
 is-shown n taken image more enough few =
     before-past image_bytes n taken (Show image ∷ more) enough
     ∙ (cc (ends-there image_bytes (n - size image_bytes taken) (Show image) more (omega (arith, enough, few)), append-nil taken))

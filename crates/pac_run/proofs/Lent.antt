@@ -35,8 +35,7 @@ module _ {W : Type 0} (took : W → List ℕ → W → Type 0) (refused : W → 
 pub carries-back : {W : Type 0} (took : W → List ℕ → W → Type 0) (refused : W → W → Type 0) (owner new writer : MutBor W) (left : W)
     → writer ≡ new → Ends owner writer left
     → Carries (writing (lent_took took) (lent_refused refused) owner new) (writing took refused owner.now left)
-carries-back took refused owner new writer left same ends =
-    carries took refused owner new left (subst (λ it. Ends owner it left) same ends)
+carries-back took refused owner new writer left same ends = carries took refused owner new left (subst (λ it. Ends owner it left) same ends)
 
 -- a text that was put into a new file, whose writer is handed back
 pub written : {W A : Type 0} (took : W → List ℕ → W → Type 0) (refused : W → W → Type 0) (owner : MutBor W) (left : W)
@@ -84,15 +83,10 @@ module _ {F G W V : Type 0} {frames : Writing F} {other_frames : Writing G} {wav
   pub breaks : (play : Played) (output : Which) (count : ℕ) → BreaksPlay play frames wave output count
       → BreaksPlay play other_frames other_wave output count
   breaks play which.Frames count (stop, told) = (frames-stop play.frames play.gives count stop, told)
-  breaks play which.Wave count it = record {
-    film = wave-stops play.frames play.gives count it.film;
-    header_first = it.header_first;
-    past = it.past;
-  }
+  breaks play which.Wave count it =
+      record { film = wave-stops play.frames play.gives count it.film; header_first = it.header_first; past = it.past }
   breaks play which.Text count it = grind (arith, sound-of)
-  breaks play which.Listing count none = none
-  breaks play which.Report count none = none
-  breaks play which.State count none = none
+  breaks play _ count none = none
 
   pub records : (play : Played) (answer : Result Outcome OutputFault) → RecordsPlay play frames wave answer
       → RecordsPlay play other_frames other_wave answer

@@ -15,4 +15,3 @@ pub mod Debugged
 pub mod Cut
 pub mod Scripts
 pub mod InParts
-pub mod Neutral

@@ -3,8 +3,8 @@ use Rattle.pac_run.proofs.Common.{BreaksPlay, CommandFault, Counted, Delivers, E
 use Rattle.pac_run.proofs.Common.{HasText, IfOk, IsBrokenOff, IsPlayHeldUp, IsPlayed, IsUnwritten, Joins, List, None, Ok, Outcome, Output}
 use Rattle.pac_run.proofs.Common.{OutputFault, Played, PlaysInto, RecordsPlay, Reel, Result, Some, SoundFails, WriteFault, WritesSound}
 use Rattle.pac_run.proofs.Common.{Writing, [], ap, append-nil, append_assoc, arith, common_steps, film_giving, film_took, frame_samples}
-use Rattle.pac_run.proofs.Common.{heard_by, images_text, length, pos, replicate, rules, samples_text, shown_by, sound_text, stops-within}
-use Rattle.pac_run.proofs.Common.{subst, sym, wav_header, wave_file_text, wave_so_far, writing, ℕ, ◌*◌, ◌++◌, ◌∙◌, ◌≡◌}
+use Rattle.pac_run.proofs.Common.{heard_by, length, pos, replicate, rules, samples_text, shown_by, sound_text, stops-within, subst, sym}
+use Rattle.pac_run.proofs.Common.{wav_header, wave_file_text, wave_so_far, writing, ℕ, ◌*◌, ◌++◌, ◌∙◌, ◌≡◌}
 use Rattle.pac_media.specs.Sound as media
 use Rattle.pac_debug.specs.declared.line.CommandFault.TheVariants as faults
 use Rattle.pac_run.specs.declared.fault.Output.{Output as Which}
@@ -20,14 +20,12 @@ pub begun : {F W : Type 0} (at : Reel F W) (count total : ℕ) (file : Counted F
     → Delivers at.took_w old [] new → new.owed ≡ frame_samples * count
     → HasBegun at total (record { frames = file; wave = new; fault = None })
 begun at count total file old new same fresh text done owed =
-    record {
+    rw (← same) (record {
       images = fresh;
-      header = subst (λ (bytes : List ℕ). HasTaken at.took_w at.wave bytes new.file)
-          (append-nil (wav_header (frame_samples * count)) ∙ ap (λ (n : ℕ). wav_header (frame_samples * n)) same)
-          (done.after at.wave (wav_header (frame_samples * count)) text);
+      header = rw append-nil at (done.after at.wave (wav_header (frame_samples * count)) text);
       none_waits = done.none_waits;
-      owed = owed ∙ ap (λ (n : ℕ). frame_samples * n) same;
-    }
+      owed = owed;
+    })
 
 -- the wave's writer refused within it, and nothing was played
 pub header-broke : {F W : Type 0} (play : Played) (frames : Writing F) → IsUnwritten frames → play.unplayed
@@ -80,16 +78,14 @@ module _ {F W : Type 0} (at : Reel F W) (play : Played) (old : Film F W) (begins
   ended outcome mid new given same (Ok came) is done =
       let has = filmed at play.frames play.gives begins given.sink in
       record {
-        images = subst (λ (file : Counted F). at.took_f at.frames (images_text play.gives) file.writer) (sym same) has.images.written;
-        sound = subst (λ (bytes : List ℕ). at.took_w at.wave bytes new.wave.file.writer) (zeros-last at play.frames play.gives mid has)
+        images = rw same has.images.written;
+        sound = rw (zeros-last at play.frames play.gives mid has) at
             (done.after at.wave (wave_so_far play.frames play.gives) has.sound).written;
         done = subst play.done (sym is) given.done;
       }
   ended outcome mid new given same (Err fault) is refused =
-      subst (λ (it : OutputFault). BreaksPlay play (shown_by at new) (heard_by at new) it.output it.count) (sym refused.fault_is)
-      (breaks play.gives [] new which.Wave refused.told.count (append-nil play.gives) given.told
-      (stops-at-zeros at play.frames play.gives mid new refused.told (filmed at play.frames play.gives begins given.sink) refused.wave
-      same))
+      rw refused.fault_is (breaks play.gives [] new which.Wave refused.told.count (append-nil play.gives) given.told (stops-at-zeros at
+      play.frames play.gives mid new refused.told (filmed at play.frames play.gives begins given.sink) refused.wave same))
 
   -- up to a text that was refused, and what waited was written or refused
   pub broke-off : (mid new : Film F W) (count : ℕ) → IsBrokenOff (film_took at.took_f at.took_w) play old count mid
@@ -101,7 +97,7 @@ module _ {F W : Type 0} (at : Reel F W) (play : Played) (old : Film F W) (begins
         taken = off.taken;
         among = off.among;
         untold = off.untold;
-        images = subst (λ (file : Counted F). at.took_f at.frames (images_text off.taken) file.writer) (sym same) has.images.written;
+        images = rw same has.images.written;
         sound = sound-of at play.frames off.taken mid new.wave has answer written;
       }
 

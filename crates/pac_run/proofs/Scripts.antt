@@ -13,8 +13,7 @@ total-joined (line ∷ lines) other = let more = total-joined lines other in ome
 -- before the first of some lines nothing is held
 unheld : (before frame : ℕ) (lines : List Stretch) → frame ≤ before → held_after before lines frame ≡ 0
 unheld before frame [] early = refl
-unheld before frame (line ∷ lines) early =
-    rw (le-ltb before frame early) (unheld (before + line.frames) frame lines (omega (arith, early)))
+unheld before frame (line ∷ lines) early = rw (le-ltb before frame early) (unheld (before + line.frames) frame lines (omega (arith, early)))
 
 same-test : (one other : Bool) → (one ≡ true → other ≡ true) → (other ≡ true → one ≡ true) → one ≡ other
 same-test one other there back = search rules

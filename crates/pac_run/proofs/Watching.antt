@@ -2,7 +2,7 @@
 use Rattle.pac_run.proofs.Common.{CommandFault, Err, Giving, HasTaken, IsBrokenOff, IsPlayHeldUp, IsPlayed, IsSessionWatched}
 use Rattle.pac_run.proofs.Common.{IsWatchRefused, IsWatchUntold, List, Ok, Option, Outcome, PlaysInto, Result, Scene, SessionTells}
 use Rattle.pac_run.proofs.Common.{SessionValue, Some, TellsAll, WatchesSession, WriteFault, Writing, [], all-told, ap, arith}
-use Rattle.pac_run.proofs.Common.{outputs_to_give, rules, session_at_start, session_due_outputs, session_played, subst, sym, told-up-to}
+use Rattle.pac_run.proofs.Common.{outputs_to_give, rules, session_at_start, session_due_outputs, session_played, subst, told-up-to}
 use Rattle.pac_run.proofs.Common.{watched_by, whole_run, writing, ℕ, ◌∙◌, ◌≡◌}
 use Rattle.pac_debug.specs.declared.line.CommandFault.TheVariants as faults
 use Rattle.pac_run.proofs.Lent.{Carries}
@@ -10,8 +10,7 @@ use Rattle.pac_run.proofs.Lent.{Carries}
 module _ {S T U : Type 0} (to : Giving S) (wrote : T → List ℕ → T → Type 0) (balked : T → T → Type 0) (lines : List (List ℕ))
     (scene last : Scene S T) (fresh : scene.session ≡ session_at_start scene.session.setting 0) (start : T)
     (new_text : HasTaken wrote start [] scene.text) (words : Writing U)
-    (tells : Carries (writing wrote balked start last.text.writer) words)
-    (unplayed : Type 0) where
+    (tells : Carries (writing wrote balked start last.text.writer) words) (unplayed : Type 0) where
   -- a session at the beginning of its run has all of it still to give
   all-to-give : outputs_to_give scene.session ≡ (whole_run scene.session.setting).outputs
   all-to-give = ap outputs_to_give fresh
@@ -51,12 +50,11 @@ module _ {S T U : Type 0} (to : Giving S) (wrote : T → List ℕ → T → Type
 
 -- the session may have been played already
 pub of-session : {S U : Type 0} (to : Giving S) (words : Writing U) (lines : List (List ℕ)) (unplayed other : Type 0)
-    (found : Option SessionValue)
-    (session : SessionValue) → found ≡ Some session → (old new : S) (answer : Result Outcome CommandFault)
+    (found : Option SessionValue) (session : SessionValue) → found ≡ Some session → (old new : S) (answer : Result Outcome CommandFault)
     → PlaysInto to (session_played words session lines unplayed) old answer new
     → PlaysInto to (watched_by words lines other found) old answer new
 of-session to words lines unplayed other found session is old new answer it =
-    subst (λ found. PlaysInto to (watched_by words lines other found) old answer new) (sym is) (told answer it)
+    rw is (told answer it)
   where
     told : (answer : Result Outcome CommandFault) → PlaysInto to (session_played words session lines unplayed) old answer new
         → PlaysInto to (watched_by words lines other (Some session)) old answer new

@@ -1,18 +1,17 @@
 -- What stays so of a run that failed, and what is there of one that was done.
-use Rattle.pac_run_command.proofs.Common.{Bool, Does, EndsWhole, Err, Failure, Handling, InTurn, IsSettled, IsWrittenOut, List, Ok, Outcome}
-use Rattle.pac_run_command.proofs.Common.{Result, Target, WantedOutput, [], false, inl, inr, refl, subst, sym, true, ◌∷◌, ◌≡◌}
+use Rattle.pac_run_command.proofs.Common.{Does, EndsWhole, Err, Failure, Handling, InTurn, IsSettled, IsSome, IsWrittenOut, List, Ok}
+use Rattle.pac_run_command.proofs.Common.{Outcome, Result, Target, WantedOutput, [], inl, inr, refl, ◌∙◌, ◌∷◌, ◌≡◌, ◌⊎◌}
 
 -- ---- what is so of any files
 
-abbrev pub is_done : Result Outcome Failure → Bool
-is_done (Ok outcome) = true
-is_done (Err failure) = false
+-- one fact of a run that failed, another of one that was done
+abbrev pub ByAnswer : (failed done : Type 0) → Result Outcome Failure → Type 0
+ByAnswer failed done (Ok outcome) = done
+ByAnswer failed done (Err failure) = failed
 
-pub lift-ends : {same whole later as_before entire after : Type 0} (answer : Result Outcome Failure) → EndsWhole same whole later answer
-    → (same → as_before) → (whole → entire) → (later → after) → EndsWhole as_before entire after answer
-lift-ends (Ok outcome) ends one two three = two ends
-lift-ends (Err failure) (inl ends) one two three = inl (one ends)
-lift-ends (Err failure) (inr ends) one two three = inr (two ends.0, three ends.1)
+pub either : {failed done other : Type 0} (answer : Result Outcome Failure) → ByAnswer failed done answer → (done → other) → failed ⊎ other
+either (Ok outcome) is onward = inr (onward is)
+either (Err failure) is onward = inl is
 
 -- there is a file for each output
 abbrev pub AreFor : {File : Type 0} → List (WantedOutput Target) → List File → Type 0
@@ -20,67 +19,49 @@ AreFor [] files = Unit {0}
 AreFor (wanted ∷ more) [] = ⊥
 AreFor (wanted ∷ more) (file ∷ files) = AreFor more files
 
--- of a run that was done there is
-abbrev pub Fit : {File : Type 0} → Result Outcome Failure → List (WantedOutput Target) → List File → Type 0
-Fit (Ok outcome) wanted files = AreFor wanted files
-Fit (Err failure) wanted files = Unit {0}
-
-pub fit-rest : {File : Type 0} (answer : Result Outcome Failure) (one : WantedOutput Target) (more : List (WantedOutput Target))
-    (file : File) (files : List File) → Fit answer (one ∷ more) (file ∷ files) → Fit answer more files
-fit-rest (Ok outcome) one more file files fit = fit
-fit-rest (Err failure) one more file files fit = tt
-
-all-fit : {File : Type 0} (answer : Result Outcome Failure) (wanted : List (WantedOutput Target)) (files : List File)
-    → AreFor wanted files → Fit answer wanted files
-all-fit (Ok outcome) wanted files are = are
-all-fit (Err failure) wanted files are = tt
-
-pub unfit-ends : (File same whole later : Type 0) (answer : Result Outcome Failure) (one : WantedOutput Target)
-    (more : List (WantedOutput Target)) → Fit {File = File} answer (one ∷ more) [] → same → EndsWhole same whole later answer
-unfit-ends File before whole later (Ok outcome) one more fit same = absurd fit
-unfit-ends File before whole later (Err failure) one more fit same = inl same
-
-pub failed-ends : (same whole later : Type 0) (answer : Result Outcome Failure) (failure : Failure) → answer ≡ Err failure → same
-    → EndsWhole same whole later answer
-failed-ends same whole later answer failure is ends = subst (EndsWhole same whole later) (sym is) (inl ends)
-
 -- ---- what failed stays so
 
 -- where a failure stays what it is by each step, it is the answer
-still-fails : {Disk File : Type 0} (does : Does Disk File)
-    → ((old new : Disk) (one : WantedOutput Target) (file : File) (failure : Failure) (answer : Result Outcome Failure)
-    → does old one file (Err failure) answer new → answer ≡ Err failure)
-    → (wanted : List (WantedOutput Target)) (files : List File) (failure : Failure) (answer : Result Outcome Failure) (old new : Disk)
-    → InTurn does old wanted files (Err failure) answer new → answer ≡ Err failure
-still-fails does stays [] files failure answer old new turns = turns.0
-still-fails does stays (one ∷ more) [] failure answer old new turns = turns.0
-still-fails does stays (one ∷ more) (file ∷ files) failure answer old new turns =
-    still-fails does stays more files failure answer turns.0 new
-    (subst (λ so_far. InTurn does turns.0 more files so_far answer new) (stays old turns.0 one file failure turns.1 turns.2) turns.3)
+still-fails : {Disk File : Type 0} (does : Does Disk File) (failure : Failure)
+    → ((old new : Disk) (one : WantedOutput Target) (file : File) (ran answer : Result Outcome Failure) → ran ≡ Err failure
+    → does old one file ran answer new → answer ≡ Err failure)
+    → (wanted : List (WantedOutput Target)) (files : List File) (ran answer : Result Outcome Failure) (old new : Disk)
+    → ran ≡ Err failure → InTurn does old wanted files ran answer new → answer ≡ Err failure
+still-fails does failure stays [] files ran answer old new fails turns = turns.0 ∙ fails
+still-fails does failure stays (one ∷ more) [] ran answer old new fails turns = turns.0 ∙ fails
+still-fails does failure stays (one ∷ more) (file ∷ files) ran answer old new fails turns =
+    still-fails does failure stays more files turns.1 answer turns.0 new (stays old turns.0 one file ran turns.1 fails turns.2) turns.3
 
 module _ {Disk File : Type 0} (handling : Handling Disk File) where
-  pub unsettled : (wanted : List (WantedOutput Target)) (files : List File) (failure : Failure) (answer : Result Outcome Failure)
-      (old new : Disk) → InTurn (IsSettled handling) old wanted files (Err failure) answer new → answer ≡ Err failure
-  unsettled = still-fails (IsSettled handling) (λ old new one file failure answer is. is.0)
+  unsettled : (wanted : List (WantedOutput Target)) (files : List File) (failure : Failure) (ran answer : Result Outcome Failure)
+      (old new : Disk) → ran ≡ Err failure → InTurn (IsSettled handling) old wanted files ran answer new → answer ≡ Err failure
+  unsettled wanted files failure =
+      still-fails (IsSettled handling) failure (λ old new one file ran answer fails is. (rw fails at is).0) wanted files
 
   -- a run that failed fails in the end
   pub stays-failed : (wanted : List (WantedOutput Target)) (files : List File) (failure : Failure)
       (ran so_far answer : Result Outcome Failure) (old written new : Disk)
       → ran ≡ Err failure → InTurn (IsWrittenOut handling) old wanted files ran so_far written
       → InTurn (IsSettled handling) written wanted files so_far answer new → answer ≡ Err failure
-  stays-failed wanted files failure ran so_far answer old written new failed out settled =
-      let stays = still-fails (IsWrittenOut handling) (λ old new one file failure answer is. is.0) wanted files failure so_far old written
-      (subst (λ ran. InTurn (IsWrittenOut handling) old wanted files ran so_far written) failed out) in
-      unsettled wanted files failure answer written new
-      (subst (λ far. InTurn (IsSettled handling) written wanted files far answer new) stays settled)
+  stays-failed wanted files failure ran so_far answer old written new failed out =
+      unsettled wanted files failure so_far answer written new (still-fails (IsWrittenOut handling) failure
+      (λ old new one file ran answer fails is. (rw fails at is).0) wanted files ran so_far old written failed out)
 
   -- a run whose answer is that it was done was
   pub run-fits : (wanted : List (WantedOutput Target)) (files : List File) (ran so_far answer : Result Outcome Failure)
-      (old written new : Disk)
-      → InTurn (IsWrittenOut handling) old wanted files ran so_far written
+      (old written new : Disk) → InTurn (IsWrittenOut handling) old wanted files ran so_far written
       → InTurn (IsSettled handling) written wanted files so_far answer new
-      → ((outcome : Outcome) → ran ≡ Ok outcome → AreFor wanted files) → Fit answer wanted files
-  run-fits wanted files (Ok outcome) so_far answer old written new out settled fit = all-fit answer wanted files (fit outcome refl)
-  run-fits wanted files (Err failure) so_far answer old written new out settled fit =
-      subst (λ one. Fit one wanted files)
-      (sym (stays-failed wanted files failure (Err failure) so_far answer old written new refl out settled)) tt
+      → ((outcome : Outcome) → ran ≡ Ok outcome → AreFor wanted files) → (outcome : Outcome) → answer ≡ Ok outcome → AreFor wanted files
+  run-fits wanted files (Ok done) so_far answer old written new out settled fit outcome is = fit done refl
+  run-fits wanted files (Err failure) so_far answer old written new out settled fit outcome is =
+      absurd (cc (stays-failed wanted files failure (Err failure) so_far answer old written new refl out settled))
+
+  -- how it ends once an output took its place, or couldn't
+  pub ends-after : (same placed whole later : Type 0) (more : List (WantedOutput Target)) (files : List File)
+      (so_far answer : Result Outcome Failure) (old new : Disk) → InTurn (IsSettled handling) old more files so_far answer new
+      → ByAnswer same placed so_far → (placed → whole) → (IsSome more → later) → EndsWhole same whole later answer
+  ends-after same placed whole later more files (Err failure) answer old new turns is onward some =
+      rw (unsettled more files failure (Err failure) answer old new refl turns) (inl is)
+  ends-after same placed whole later more files (Ok outcome) (Ok ended) old new turns is onward some = onward is
+  ends-after same placed whole later [] files (Ok outcome) (Err failure) old new turns is onward some = absurd (cc (turns.0))
+  ends-after same placed whole later (next ∷ more) files (Ok outcome) (Err failure) old new turns is onward some = inr (onward is, some tt)

@@ -1,8 +1,8 @@
 -- A run that was done leaves a file for each output.
 use Rattle.pac_run_command.proofs.Common.{AllBegun, Err, Failure, Handling, List, None, Ok, Option, Outcome, PerformsRun, Result, Resumes}
-use Rattle.pac_run_command.proofs.Common.{RunInputs, RunsOrResumes, Some, Writings, ap, option_to_list, refused_if_there, state_output, sym}
-use Rattle.pac_run_command.proofs.Common.{took_if_there, true≢false, writing, ℕ, ◌≡◌}
-use Rattle.pac_run_command.proofs.Failing.{AreFor, is_done}
+use Rattle.pac_run_command.proofs.Common.{RunInputs, RunsOrResumes, Some, Writings, option_to_list, refused_if_there, state_output}
+use Rattle.pac_run_command.proofs.Common.{took_if_there, writing, ℕ, ◌≡◌}
+use Rattle.pac_run_command.proofs.Failing.{AreFor}
 
 module _ {Disk File R : Type 0} (handling : Handling Disk File) (took : File → List ℕ → File → Type 0) (refused : File → File → Type 0)
     (inputs : RunInputs) (to : Writings File File File R) where
@@ -22,5 +22,4 @@ module _ {Disk File R : Type 0} (handling : Handling Disk File) (took : File →
   state-there from (Some path) (Some draft) (Some final) old new outcome ran is begun performs = tt
   state-there from (Some path) (Some draft) None old new outcome (Ok ended) is begun performs =
       absurd (done-from from draft None ended performs).holds.holds.state_is
-  state-there from (Some path) (Some draft) None old new outcome (Err failure) is begun performs =
-      absurd (true≢false (sym (ap is_done is)))
+  state-there from (Some path) (Some draft) None old new outcome (Err failure) is begun performs = absurd (cc)

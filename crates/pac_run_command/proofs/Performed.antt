@@ -1,8 +1,7 @@
 -- A run over writers that are lent, with its fault told as a failure.
 use Rattle.pac_run_command.proofs.Common.{Bor, Carries, Err, Failure, HoldsByAnswer, IsUnwritten, List, None, Ok, Option, Outcome}
-use Rattle.pac_run_command.proofs.Common.{PerformsRun, PerformsWatched, Result, Resumes, RunFault, RunInputs, Runs, RunsOrResumes, Some}
-use Rattle.pac_run_command.proofs.Common.{Writing, Writings, debugs, false, false≢true, is_some, itself, option_copied, resumes, runs, sym}
-use Rattle.pac_run_command.proofs.Common.{true, ℕ, ◌||◌, ◌≡◌}
+use Rattle.pac_run_command.proofs.Common.{PerformsRun, PerformsWatched, Result, Resumes, RunFault, RunInputs, Runs, RunsOrResumes, Writing}
+use Rattle.pac_run_command.proofs.Common.{Writings, debugs, false, is_some, itself, option_copied, resumes, runs, true, ℕ, ◌||◌, ◌≡◌}
 
 by-answer : {one other : Result Outcome RunFault → Type 0} → ((answer : Result Outcome RunFault) → one answer → other answer)
     → (answer : Result Outcome Failure) → HoldsByAnswer one answer → HoldsByAnswer other answer
@@ -15,9 +14,7 @@ module _ {F G W V L K R Q : Type 0} (to : Writings F W L R) (other : Writings G 
     one-of : (from : Option (List ℕ)) (named : Option S) (answer : Result Outcome RunFault)
         → RunsOrResumes inputs from to state named answer → RunsOrResumes inputs from other state named answer
     one-of None None answer (ran, unsaved) = (runs to other shows sounds lists reports inputs answer ran, unsaved)
-    one-of None (Some file) answer ran = resumes to other shows sounds lists reports state inputs None answer ran
-    one-of (Some bytes) None answer ran = resumes to other shows sounds lists reports state inputs (Some bytes) answer ran
-    one-of (Some bytes) (Some file) answer ran = resumes to other shows sounds lists reports state inputs (Some bytes) answer ran
+    one-of from named answer ran = resumes to other shows sounds lists reports state inputs from answer ran
 
     pub performed : (from : Option (List ℕ)) (answer : Result Outcome Failure) → PerformsRun inputs from to state answer
         → PerformsRun inputs from other state answer
@@ -33,14 +30,11 @@ module _ {F W L R S : Type 0} (to : Writings F W L R) (state : Writing (Option S
   pub resumed : (from : Option (Bor (List ℕ))) (named : Option S) (answer : Result Outcome RunFault)
       → true ≡ (is_some from || is_some named) → Resumes inputs (option_copied from) to state answer
       → RunsOrResumes inputs (option_copied from) to state named answer
-  resumed None None answer some ran = absurd (false≢true (sym some))
-  resumed None (Some file) answer some ran = ran
-  resumed (Some bytes) None answer some ran = ran
-  resumed (Some bytes) (Some file) answer some ran = ran
+  resumed None None answer some ran = absurd (cc)
+  resumed _ _ answer some ran = ran
 
   pub started : (from : Option (Bor (List ℕ))) (named : Option S) (answer : Result Outcome RunFault)
       → false ≡ (is_some from || is_some named) → Runs inputs to answer → IsUnwritten state
       → RunsOrResumes inputs (option_copied from) to state named answer
   started None None answer none ran unsaved = (ran, unsaved)
-  started None (Some file) answer none ran unsaved = absurd (false≢true none)
-  started (Some bytes) named answer none ran unsaved = absurd (false≢true none)
+  started _ _ answer none ran unsaved = absurd (cc)

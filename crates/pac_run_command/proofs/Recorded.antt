@@ -1,9 +1,9 @@
 -- A run of what was read, by itself or under a debugger.
-use Rattle.pac_run_command.proofs.Common.{Any, AskedDebug, AskedPlay, Bor, Ending, Extent, Failure, FindsFile, Global, Handling, HasIfNamed}
+use Rattle.pac_run_command.proofs.Common.{Any, AskedDebug, AskedPlay, Bor, Ending, Failure, FindsFile, Global, Handling, HasIfNamed}
 use Rattle.pac_run_command.proofs.Common.{IsOfReading, List, Manner, Memory, Option, PartUnread, Performing, Played, PlaysRun, Read}
-use Rattle.pac_run_command.proofs.Common.{ReadsAndRuns, RunsGiven, Script, Set, Some, Source, State, Vec, WantedFile, Watched, WatchesRun}
-use Rattle.pac_run_command.proofs.Common.{Words, Write, Writing, from_power_on, inl, inr, option_copied, option_map, performing}
-use Rattle.pac_run_command.proofs.Common.{played_files, silent_in, subst, sym, watched_files, watching, ℕ, ◌≡◌}
+use Rattle.pac_run_command.proofs.Common.{ReadsAndRuns, RunsGiven, Some, Vec, WantedFile, Watched, WatchesRun, Writing, from_power_on, inl}
+use Rattle.pac_run_command.proofs.Common.{inr, option_copied, option_map, performing, played_files, silent_in, subst, sym, watched_files}
+use Rattle.pac_run_command.proofs.Common.{watching, ℕ, ◌≡◌}
 
 pub silent-in : (manner : Manner) {report text : Type 0} → report → text → silent_in manner report text
 silent-in (Played from) report text = report
@@ -14,13 +14,7 @@ of-reading : (one other : List ℕ → Type 0) → ((name : List ℕ) → one na
     → IsOfReading other failure
 of-reading one other onward (Read name) reason = onward name.now reason
 of-reading one other onward Memory reason = tt
-of-reading one other onward (Source fault) reason = absurd reason
-of-reading one other onward (Set fault) reason = absurd reason
-of-reading one other onward (Script fault) reason = absurd reason
-of-reading one other onward (State fault) reason = absurd reason
-of-reading one other onward Extent reason = absurd reason
-of-reading one other onward (Write output count) reason = absurd reason
-of-reading one other onward Words reason = absurd reason
+of-reading one other onward _ reason = absurd reason
 
 -- with the last of what the command line names, it is all of the work
 once-read : {A Disk File C : Type 0} (finds : FindsFile) (handling : Handling Disk File) (named : List WantedFile) (has : A → Type 0)

@@ -1,11 +1,9 @@
 -- A run whose outputs couldn't all be begun.
-use Rattle.pac_run_command.proofs.Common.{AskedPlay, Err, Extent, Failure, FirstUnbegun, Handling, IsRunUncreated, List, Memory, Opens}
-use Rattle.pac_run_command.proofs.Common.{Read, Result, Script, Set, Source, State, Target, WantedOutput, Words, Write, ap, run_outputs}
-use Rattle.pac_run_command.proofs.Common.{subst, ◌≡◌}
+use Rattle.pac_run_command.proofs.Common.{AskedPlay, Err, Failure, FirstUnbegun, Handling, IsRunUncreated, List, Opens, Result, Target}
+use Rattle.pac_run_command.proofs.Common.{WantedOutput, Write, ap, run_outputs, subst, ◌≡◌}
 
 module _ {Disk File A : Type 0} (handling : Handling Disk File) (asked : AskedPlay) (wanted : List (WantedOutput Target))
-    (begun : A → Type 0)
-    (old new : Disk) (is : wanted ≡ run_outputs asked) where
+    (begun : A → Type 0) (old new : Disk) (is : wanted ≡ run_outputs asked) where
   by-failure : (failure : Failure) → Opens begun (λ output. FirstUnbegun handling old wanted output new) (Err failure)
       → IsRunUncreated handling asked old (Err failure) new
   by-failure (Write output count) opens = record {
@@ -13,14 +11,7 @@ module _ {Disk File A : Type 0} (handling : Handling Disk File) (asked : AskedPl
     answer_is = ap (λ k. Err (Write output k)) opens.0;
     first = subst (λ all. FirstUnbegun handling old all output new) is opens.1;
   }
-  by-failure (Read name) opens = absurd opens
-  by-failure (Source fault) opens = absurd opens
-  by-failure (Set fault) opens = absurd opens
-  by-failure (Script fault) opens = absurd opens
-  by-failure (State fault) opens = absurd opens
-  by-failure Extent opens = absurd opens
-  by-failure Memory opens = absurd opens
-  by-failure Words opens = absurd opens
+  by-failure _ opens = absurd opens
 
   pub uncreated : (answer : Result A Failure) (failure : Failure) → answer ≡ Err failure
       → Opens begun (λ output. FirstUnbegun handling old wanted output new) answer → IsRunUncreated handling asked old (Err failure) new

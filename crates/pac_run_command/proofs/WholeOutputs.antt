@@ -1,12 +1,11 @@
 -- The file of an output that takes its place is whole at each moment of a run.
-use Rattle.pac_run_command.proofs.Common.{AllBegun, AllElsewhere, AllOutputsAreWhole, AskedPlay, Bool, EndsWhole, Err, Failure}
+use Rattle.pac_run_command.proofs.Common.{AllBegun, AllElsewhere, AllOutputsAreWhole, AskedPlay, Bool, Does, EndsWhole, Err, Failure}
 use Rattle.pac_run_command.proofs.Common.{FirstUnbegun, Given, Handling, HasLater, HasNewText, HasPathAlone, InTurn, IsPerformed, IsSettled}
-use Rattle.pac_run_command.proofs.Common.{IsSome, IsWrittenOut, List, NamedFile, None, Ok, Option, Outcome, Performing, ReplacesWhole}
-use Rattle.pac_run_command.proofs.Common.{Result, Some, StaysWhole, Target, WantedOutput, WhileBegun, WhileInTurn, WriteFault, [], ap}
-use Rattle.pac_run_command.proofs.Common.{begins_by, by_call, drafted, false, inl, inr, lets_go_by, refl, run_output_files, run_outputs}
-use Rattle.pac_run_command.proofs.Common.{subst, sym, takes_place_by, true, true≢false, writes_out_by, writing, writings_of, ℕ, ◌∙◌, ◌∷◌}
-use Rattle.pac_run_command.proofs.Common.{◌≡◌, ◌⊎◌}
-use Rattle.pac_run_command.proofs.Failing.{AreFor, Fit, failed-ends, fit-rest, is_done, lift-ends, run-fits, unfit-ends, unsettled}
+use Rattle.pac_run_command.proofs.Common.{IsWrittenOut, List, NamedFile, None, Ok, Option, Outcome, Performing, ReplacesWhole, Result, Some}
+use Rattle.pac_run_command.proofs.Common.{StaysWhole, Target, WantedOutput, WhileBegun, WhileInTurn, WriteFault, [], ap, begins_by, by_call}
+use Rattle.pac_run_command.proofs.Common.{drafted, false, inl, inr, lets_go_by, refl, run_output_files, run_outputs, subst, sym, true}
+use Rattle.pac_run_command.proofs.Common.{true≢false, writing, writings_of, ℕ, ◌∙◌, ◌∷◌, ◌≡◌, ◌⊎◌}
+use Rattle.pac_run_command.proofs.Failing.{AreFor, ByAnswer, either, ends-after, run-fits}
 use Rattle.pac_run_command.proofs.Left.{state-there}
 
 module _ {Disk File : Type 0} {handling : Handling Disk File} {took : File → List ℕ → File → Type 0} {path : List ℕ}
@@ -64,117 +63,83 @@ module _ {Disk File : Type 0} {handling : Handling Disk File} {took : File → L
 
   -- ---- what is written out
 
-  writes-same : (is_draft : Bool) (output : Target) (file : File) (outcome : Outcome) (answer : Result Outcome Failure) (old new : Disk)
-      → writes_out_by handling is_draft old output file outcome answer new → named new ≡ named old
-  writes-same true output file outcome answer old new is = keeps.syncs old new file is.done is.called
-  writes-same false output file outcome answer old new is = ap named is.1
+  written-same : (is_draft : Bool) (output : Target) (other : List ℕ) (file : File) (ran answer : Result Outcome Failure) (old new : Disk)
+      → IsWrittenOut handling old (record { output = output; path = other; is_draft = is_draft }) file ran answer new
+      → named new ≡ named old
+  written-same true output other file (Ok outcome) answer old new is = keeps.syncs old new file is.done is.called
+  written-same false output other file (Ok outcome) answer old new is = ap named is.1
+  written-same is_draft output other file (Err failure) answer old new is = ap named is.1
 
-  written-same : (one : WantedOutput Target) (file : File) (ran answer : Result Outcome Failure) (old new : Disk)
-      → IsWrittenOut handling old one file ran answer new → named new ≡ named old
-  written-same one file (Ok outcome) answer old new is = writes-same one.is_draft one.output file outcome answer old new is
-  written-same one file (Err failure) answer old new is = ap named is.1
-
-  all-written : (before : Option (List ℕ)) (wanted : List (WantedOutput Target)) (files : List File) (ran answer : Result Outcome Failure)
-      (old new : Disk) → named old ≡ before → (turns : InTurn (IsWrittenOut handling) old wanted files ran answer new)
-      → WhileInTurn (λ disk. named disk ≡ before) (IsWrittenOut handling) old wanted files ran answer new turns × (named new ≡ before)
-  all-written before [] files ran answer old new at turns = (tt, ap named turns.1 ∙ at)
-  all-written before (one ∷ more) [] ran answer old new at turns = (tt, ap named turns.1 ∙ at)
-  all-written before (one ∷ more) (file ∷ files) ran answer old new at turns =
-      let here = written-same one file ran turns.1 old turns.0 turns.2 ∙ at in
-      let rest = all-written before more files turns.1 answer turns.0 new here turns.3 in
-      ((here, rest.0), rest.1)
+  -- what is done in turn with outputs of which each keeps the file, by what holds of them all
+  all-keep : (holds : Option (List ℕ) → Type 0) (does : Does Disk File) (all : List (WantedOutput Target) → Type 0)
+      → ((one : WantedOutput Target) (more : List (WantedOutput Target)) → all (one ∷ more)
+      → ((file : File) (ran answer : Result Outcome Failure) (old new : Disk) → does old one file ran answer new → named new ≡ named old)
+      × all more) → (wanted : List (WantedOutput Target)) → all wanted → (files : List File) (ran answer : Result Outcome Failure)
+      (old new : Disk) → holds (named old) → (turns : InTurn does old wanted files ran answer new)
+      → WhileInTurn (λ disk. holds (named disk)) does old wanted files ran answer new turns × (named new ≡ named old)
+  all-keep holds does all each [] are files ran answer old new at turns = (tt, ap named turns.1)
+  all-keep holds does all each (one ∷ more) are [] ran answer old new at turns = (tt, ap named turns.1)
+  all-keep holds does all each (one ∷ more) are (file ∷ files) ran answer old new at turns =
+      let keep = each one more are in
+      let here = keep.0 file ran turns.1 old turns.0 turns.2 in
+      let held : holds (named turns.0) = rw here at in
+      let rest = all-keep holds does all each more keep.1 files turns.1 answer turns.0 new held turns.3 in
+      ((held, rest.0), rest.1 ∙ here)
 
   -- ---- what is settled
 
-  takes-elsewhere : (is_draft : Bool) (output : Target) (other : List ℕ) → (other ≡ path → ⊥) → (file : File) (outcome : Outcome)
-      (answer : Result Outcome Failure) (old new : Disk) → takes_place_by handling is_draft old output other file outcome answer new
+  settled-elsewhere : (is_draft : Bool) (output : Target) (other : List ℕ) → (other ≡ path → ⊥) → (file : File)
+      (ran answer : Result Outcome Failure) (old new : Disk)
+      → IsSettled handling old (record { output = output; path = other; is_draft = is_draft }) file ran answer new
       → named new ≡ named old
-  takes-elsewhere true output other apart file outcome answer old new is = keeps.elsewhere old new other file is.done apart is.called
-  takes-elsewhere false output other apart file outcome answer old new is = keeps.closes old new file is.1
-
-  settled-elsewhere : (one : WantedOutput Target) → (one.path ≡ path → ⊥) → (file : File) (ran answer : Result Outcome Failure)
-      (old new : Disk) → IsSettled handling old one file ran answer new → named new ≡ named old
-  settled-elsewhere one apart file (Ok outcome) answer old new is =
-      takes-elsewhere one.is_draft one.output one.path apart file outcome answer old new is
-  settled-elsewhere one apart file (Err failure) answer old new is = lets-go-same one.is_draft one.path old new file is.1
-
-  all-elsewhere : (holds : Option (List ℕ) → Type 0) (wanted : List (WantedOutput Target)) → AllElsewhere path wanted → (files : List File)
-      (ran answer : Result Outcome Failure) (old new : Disk) → holds (named old)
-      → (turns : InTurn (IsSettled handling) old wanted files ran answer new)
-      → WhileInTurn (λ disk. holds (named disk)) (IsSettled handling) old wanted files ran answer new turns × (named new ≡ named old)
-  all-elsewhere holds [] apart files ran answer old new at turns = (tt, ap named turns.1)
-  all-elsewhere holds (one ∷ more) apart [] ran answer old new at turns = (tt, ap named turns.1)
-  all-elsewhere holds (one ∷ more) apart (file ∷ files) ran answer old new at turns =
-      let here = settled-elsewhere one apart.0 file ran turns.1 old turns.0 turns.2 in
-      let held = subst holds (sym here) at in
-      let rest = all-elsewhere holds more apart.1 files turns.1 answer turns.0 new held turns.3 in
-      ((held, rest.0), rest.1 ∙ here)
+  settled-elsewhere true output other apart file (Ok outcome) answer old new is = keeps.elsewhere old new other file is.done apart is.called
+  settled-elsewhere false output other apart file (Ok outcome) answer old new is = keeps.closes old new file is.1
+  settled-elsewhere is_draft output other apart file (Err failure) answer old new is = lets-go-same is_draft other old new file is.1
 
   -- the output's own draft takes its place, or the file stays
-  abbrev IsPlaced : File → (so_far : Result Outcome Failure) → Disk → Type 0
-  IsPlaced file so_far new = (outcome : Outcome) × (so_far ≡ Ok outcome) × (named new ≡ Some (text_of file))
+  called : (before : Option (List ℕ)) (output : Target) (file : File) (outcome : Outcome) (done : Result Unit WriteFault)
+      (so_far : Result Outcome Failure) (old new : Disk) → named old ≡ before → handling.publishes old path file done new
+      → so_far ≡ by_call output outcome done → ByAnswer (named new ≡ before) (named new ≡ Some (text_of file)) so_far
+  called before output file outcome (Ok done) so_far old new at publishes is = rw is (keeps.publishes old new file done publishes)
+  called before output file outcome (Err fault) so_far old new at publishes is = rw is (keeps.stays old new file fault publishes ∙ at)
 
-  abbrev IsStopped : (so_far : Result Outcome Failure) → (old new : Disk) → Type 0
-  IsStopped so_far old new = (failure : Failure) × (so_far ≡ Err failure) × (named new ≡ named old)
+  own : (before : Option (List ℕ)) (output : Target) (file : File) (ran so_far : Result Outcome Failure) (old new : Disk)
+      → named old ≡ before → IsSettled handling old (drafted output path) file ran so_far new
+      → ByAnswer (named new ≡ before) (named new ≡ Some (text_of file)) so_far
+  own before output file (Ok outcome) so_far old new at is =
+      called before output file outcome is.done so_far old new at is.called is.answer_is
+  own before output file (Err failure) so_far old new at is = rw is.0 (keeps.discards old new path file is.1 ∙ at)
 
-  called : (output : Target) (file : File) (outcome : Outcome) (done : Result Unit WriteFault) (so_far : Result Outcome Failure)
-      (old new : Disk) → handling.publishes old path file done new → so_far ≡ by_call output outcome done
-      → IsStopped so_far old new ⊎ IsPlaced file so_far new
-  called output file outcome (Ok done) so_far old new publishes is = inr (outcome, is, keeps.publishes old new file done publishes)
-  called output file outcome (Err fault) so_far old new publishes is = inl (_, is, keeps.stays old new file fault publishes)
-
-  own : (output : Target) (file : File) (ran so_far : Result Outcome Failure) (old new : Disk)
-      → IsSettled handling old (drafted output path) file ran so_far new → IsStopped so_far old new ⊎ IsPlaced file so_far new
-  own output file (Ok outcome) so_far old new is = called output file outcome is.done so_far old new is.called is.answer_is
-  own output file (Err failure) so_far old new is = inl (failure, is.0, keeps.discards old new path file is.1)
-
-  placed-ends : (same whole other at : Type 0) (more : List (WantedOutput Target)) (files : List File) (outcome : Outcome)
-      (so_far answer : Result Outcome Failure) (old new : Disk) → so_far ≡ Ok outcome
-      → InTurn (IsSettled handling) old more files so_far answer new → whole → at
-      → EndsWhole same whole ((at × IsSome more) ⊎ other) answer
-  placed-ends same whole other at more files outcome so_far (Ok ended) old new is turns text here = text
-  placed-ends same whole other at [] files outcome so_far (Err failure) old new is turns text here =
-      absurd (true≢false (sym (ap is_done (turns.0 ∙ is))))
-  placed-ends same whole other at (later ∷ more) files outcome so_far (Err failure) old new is turns text here = inr (text, inl (here, tt))
-
-  all-settled : (holds : Option (List ℕ) → Type 0) (output : Target) (wanted : List (WantedOutput Target)) → HasPathAlone output path wanted
-      → (files : List File) (ran answer : Result Outcome Failure) → Fit answer wanted files → (old new : Disk) → holds (named old)
-      → ((found : Option (List ℕ)) → HasNewText text_of path wanted files found → holds found)
+  -- `text` and `later` are of all outputs, these are the last of them
+  all-settled : (before : Option (List ℕ)) (text : Option (List ℕ) → Type 0) (later : Type 0) (output : Target)
+      (wanted : List (WantedOutput Target)) → HasPathAlone output path wanted → (files : List File) (ran answer : Result Outcome Failure)
+      → ((outcome : Outcome) → answer ≡ Ok outcome → AreFor wanted files) → (old new : Disk) → named old ≡ before
+      → ((found : Option (List ℕ)) → HasNewText text_of path wanted files found → text found) → (HasLater path wanted → later)
       → (turns : InTurn (IsSettled handling) old wanted files ran answer new)
-      → WhileInTurn (λ disk. holds (named disk)) (IsSettled handling) old wanted files ran answer new turns
-      × EndsWhole (named new ≡ named old) (HasNewText text_of path wanted files (named new)) (HasLater path wanted) answer
-  all-settled holds output [] none files ran answer fit old new at whole turns = absurd none
-  all-settled holds output (one ∷ more) alone [] ran answer fit old new at whole turns =
-      (tt, unfit-ends File _ _ _ answer one more fit (ap named turns.1))
-  all-settled holds output (one ∷ more) (inr later) (file ∷ files) ran answer fit old new at whole turns =
-      let here = settled-elsewhere one later.0 file ran turns.1 old turns.0 turns.2 in
-      let held = subst holds (sym here) at in
-      let rest = all-settled holds output more later.1 files turns.1 answer (fit-rest answer one more file files fit) turns.0 new held
-      (λ found has. whole found (inr (later.0, has))) turns.3 in
-      ((held, rest.0), lift-ends answer rest.1 (λ same. same ∙ here) (λ has. inr (later.0, has)) (λ more. inr more))
-  all-settled holds output (one ∷ more) (inl here) (file ∷ files) ran answer fit old new at whole turns =
-      by (own output file ran turns.1 old turns.0
-      (subst (λ wanted. IsSettled handling old wanted file ran turns.1 turns.0) here.0 turns.2))
-    where
-      path-is : one.path ≡ path
-      path-is = ap (λ (wanted : WantedOutput Target). wanted.path) here.0
-
-      by : IsStopped turns.1 old turns.0 ⊎ IsPlaced file turns.1 turns.0
-          → WhileInTurn (λ disk. holds (named disk)) (IsSettled handling) old (one ∷ more) (file ∷ files) ran answer new turns
-          × EndsWhole (named new ≡ named old) (HasNewText text_of path (one ∷ more) (file ∷ files) (named new)) (HasLater path (one ∷ more))
-          answer
-      by (inl stopped) =
-          let held = subst holds (sym stopped.2) at in
-          let rest = all-elsewhere holds more here.1 files turns.1 answer turns.0 new held turns.3 in
-          let fails = unsettled handling more files stopped.0 answer turns.0 new
-          (subst (λ so_far. InTurn (IsSettled handling) turns.0 more files so_far answer new) stopped.1 turns.3) in
-          ((held, rest.0), failed-ends _ _ _ answer stopped.0 fails (rest.1 ∙ stopped.2))
-      by (inr placed) =
-          let held = whole (named turns.0) (inl (path-is, placed.2)) in
-          let rest = all-elsewhere holds more here.1 files turns.1 answer turns.0 new held turns.3 in (
-            (held, rest.0),
-            placed-ends _ _ _ _ more files placed.0 turns.1 answer turns.0 new placed.1 turns.3 (inl (path-is, rest.1 ∙ placed.2)) path-is,
-          )
+      → WhileInTurn (λ disk. (named disk ≡ before) ⊎ text (named disk)) (IsSettled handling) old wanted files ran answer new turns
+      × EndsWhole (named new ≡ before) (text (named new)) later answer
+  all-settled before text later output [] none files ran answer fit old new at whole comes turns = absurd none
+  all-settled before text later output (one ∷ more) alone [] ran (Ok outcome) fit old new at whole comes turns = absurd (fit outcome refl)
+  all-settled before text later output (one ∷ more) alone [] ran (Err failure) fit old new at whole comes turns =
+      (tt, inl (ap named turns.1 ∙ at))
+  all-settled before text later output (one ∷ more) (inr apart) (file ∷ files) ran answer fit old new at whole comes turns =
+      let here = settled-elsewhere one.is_draft one.output one.path apart.0 file ran turns.1 old turns.0 turns.2 ∙ at in
+      let rest = all-settled before text later output more apart.1 files turns.1 answer fit turns.0 new here
+      (λ found has. whole found (inr (apart.0, has))) (λ has. comes (inr has)) turns.3 in
+      ((inl here, rest.0), rest.1)
+  all-settled before text later output (one ∷ more) (inl here) (file ∷ files) ran answer fit old new at whole comes turns =
+      let path_is = ap (λ (wanted : WantedOutput Target). wanted.path) here.0 in
+      let has = λ (found : Option (List ℕ)) (is : found ≡ Some (text_of file)). whole found (inl (path_is, is)) in
+      let settles = subst (λ wanted. IsSettled handling old wanted file ran turns.1 turns.0) here.0 turns.2 in
+      let placed = own before output file ran turns.1 old turns.0 at settles in
+      let held = either turns.1 placed (has (named turns.0)) in
+      let rest = all-keep (λ found. (found ≡ before) ⊎ text found) (IsSettled handling) (AllElsewhere path)
+      (λ one more all. (settled-elsewhere one.is_draft one.output one.path all.0, all.1)) more here.1 files turns.1 answer turns.0 new
+      held turns.3 in (
+        (held, rest.0),
+        rw rest.1 (ends-after handling _ _ _ _ more files turns.1 answer turns.0 new turns.3 placed (has (named turns.0))
+            (λ some. comes (inl (path_is, some)))),
+      )
 
   -- ---- a run
 
@@ -187,34 +152,25 @@ module _ {Disk File : Type 0} {handling : Handling Disk File} {took : File → L
       let wanted = run_outputs asked in
       let left = run_output_files performed.left in
       let settles = performed.settled in
-      let begun = all-begun (named old) wanted (alone-spare output wanted alone) (run_output_files performed.created)
-      old performed.during refl
-      performed.all_begun in
-      let written = all-written (named old) wanted left performed.ran settles.so_far performed.during settles.written begun.1
-      settles.all_written in
-      let settled = all-settled (λ found. (found ≡ named old) ⊎ HasNewText text_of path wanted left found) output wanted alone
-      left settles.so_far
-      answer
-      (run-fits handling wanted left performed.ran settles.so_far answer performed.during settles.written new settles.all_written
-      settles.all_settled fit)
-      settles.written new (inl written.1) (λ found has. inr has) settles.all_settled in
-      record {
-        begun = begun.0;
-        written = written.0;
-        settled = settled.0;
-        ends = lift-ends answer settled.1 (λ same. same ∙ written.1) (λ has. has) (λ later. later);
-      }
+      let begun = all-begun (named old) wanted (alone-spare output wanted alone) (run_output_files performed.created) old performed.during
+      refl performed.all_begun in
+      let written = all-keep (λ found. found ≡ named old) (IsWrittenOut handling) (λ all. Unit {0})
+      (λ one more all. (written-same one.is_draft one.output one.path, tt)) wanted tt left performed.ran settles.so_far performed.during
+      settles.written begun.1 settles.all_written in
+      let settled = all-settled (named old) (HasNewText text_of path wanted left) (HasLater path wanted) output wanted alone left
+      settles.so_far answer (run-fits handling wanted left performed.ran settles.so_far answer performed.during settles.written new
+      settles.all_written settles.all_settled fit) settles.written new (written.1 ∙ begun.1) (λ found has. has) (λ later. later)
+      settles.all_settled in
+      record { begun = begun.0; written = written.0; settled = settled.0; ends = settled.1 }
 
 module _ {Disk File R T : Type 0} (handling : Handling Disk File) (took : File → List ℕ → File → Type 0) (refused : File → File → Type 0)
     (wrote : R → List ℕ → R → Type 0) (balked : R → R → Type 0) (said : T → List ℕ → T → Type 0) (fell_silent : T → T → Type 0) where
   pub outputs-whole : AllOutputsAreWhole handling took refused wrote balked said fell_silent
   outputs-whole report report_left text text_left named text_of output path keeps = record {
     of_runs = λ from asked given parts old answer new alone performed.
-        stays keeps output asked given parts old answer new alone performed
-        (λ outcome is.
-        state-there handling took refused performed.inputs
-        (writings_of took refused performed.created performed.left (writing wrote balked report report_left)) from asked.save
-        performed.created.state performed.left.state performed.all_begun.2.2.0 performed.during outcome performed.ran is
+        stays keeps output asked given parts old answer new alone performed (λ outcome is. state-there handling took refused
+        performed.inputs (writings_of took refused performed.created performed.left (writing wrote balked report report_left)) from
+        asked.save performed.created.state performed.left.state performed.all_begun.2.2.0 performed.during outcome performed.ran is
         performed.all_begun.2.2.2 performed.performed);
     of_sessions = λ commands asked given parts old answer new alone performed.
         stays keeps output _ given parts old answer new alone performed (λ outcome is. tt);

@@ -1,44 +1,21 @@
 -- The file of the state, which is the last output: a run that fails leaves it as it was.
-use Rattle.pac_run_command.proofs.Common.{AllBegun, AskedRun, Bool, EndsInState, EndsWhole, Err, Failure, Frames, Handling, HasLater}
-use Rattle.pac_run_command.proofs.Common.{HasNewState, HasNewText, HasPathAlone, List, Listing, None, Of, Ok, Option, Outcome, PerformsRun}
+use Rattle.pac_run_command.proofs.Common.{AllBegun, AskedRun, EndsInState, EndsWhole, Err, Failure, Frames, Handling, HasLater, HasNewState}
+use Rattle.pac_run_command.proofs.Common.{HasNewText, HasPathAlone, List, Listing, None, Of, Ok, Option, Outcome, PerformsRun}
 use Rattle.pac_run_command.proofs.Common.{ReplacesWhole, Result, RunInputs, Some, StatesAreWhole, Target, WantedOutput, Wave, Writings, []}
-use Rattle.pac_run_command.proofs.Common.{ap, drafted, false, film_output, inl, inr, option_to_list, refl, refused_if_there}
-use Rattle.pac_run_command.proofs.Common.{run_output_files, run_outputs, saving, state_text, sym, took_if_there, true, true≢false, writing}
-use Rattle.pac_run_command.proofs.Common.{writings_of, ℕ, ◌++◌, ◌∙◌, ◌∷◌, ◌≡◌}
+use Rattle.pac_run_command.proofs.Common.{ap, drafted, film_output, inl, inr, option_to_list, refl, refused_if_there, run_output_files}
+use Rattle.pac_run_command.proofs.Common.{run_outputs, saving, state_text, took_if_there, writing, writings_of, ℕ, ◌++◌, ◌∙◌, ◌∷◌, ◌≡◌}
 use Rattle.pac_run.specs.declared.fault.Output.TheVariants.{State}
-use Rattle.pac_run_command.proofs.Failing.{is_done, stays-failed}
-use Rattle.pac_run_command.proofs.Left.{done-from, state-there}
-use Rattle.pac_run_command.proofs.WholeOutputs.{stays}
+use Rattle.pac_run_command.proofs.Failing.{stays-failed}
+use Rattle.pac_run_command.proofs.Left.{done-from}
+use Rattle.pac_run_command.proofs.WholeOutputs.{outputs-whole}
 
-abbrev is_state : Target → Bool
-is_state (Of State) = true
-is_state other = false
-
--- an output whose path this is, where it isn't the state
-other-path : (path : List ℕ) (one : WantedOutput Target) (more : List (WantedOutput Target)) → is_state one.output ≡ false
-    → HasPathAlone (Of State) path (one ∷ more) → (one.path ≡ path → ⊥) × HasPathAlone (Of State) path more
-other-path path one more other (inl here) =
-    absurd (true≢false (sym (ap (λ (wanted : WantedOutput Target). is_state wanted.output) here.0) ∙ other))
-other-path path one more other (inr later) = later
-
--- the other three outputs have other paths, so the text is that of the state, after which none comes
-module _ (path : List ℕ) (frames wave listing : WantedOutput Target) (one : frames.path ≡ path → ⊥)
-    (two : wave.path ≡ path → ⊥) (three : listing.path ≡ path → ⊥) where
-  state-text : {File : Type 0} (text_of : File → List ℕ) (shown sounded listed file : File) (found : Option (List ℕ))
-      → HasNewText text_of path (frames ∷ wave ∷ listing ∷ drafted (Of State) path ∷ []) (shown ∷ sounded ∷ listed ∷ file ∷ []) found
-      → found ≡ Some (text_of file)
-  state-text text_of shown sounded listed file found (inl here) = absurd (one here.0)
-  state-text text_of shown sounded listed file found (inr (apart, inl here)) = absurd (two here.0)
-  state-text text_of shown sounded listed file found (inr (apart, inr (other, inl here))) = absurd (three here.0)
-  state-text text_of shown sounded listed file found (inr (apart, inr (other, inr (third, inl here)))) = here.1
-  state-text text_of shown sounded listed file found (inr (apart, inr (other, inr (third, inr none)))) = absurd (none.0 refl)
-
-  not-last : HasLater path (frames ∷ wave ∷ listing ∷ drafted (Of State) path ∷ []) → ⊥
-  not-last (inl here) = one here.0
-  not-last (inr (inl here)) = two here.0
-  not-last (inr (inr (inl here))) = three here.0
-  not-last (inr (inr (inr (inl here)))) = here.1
-  not-last (inr (inr (inr (inr none)))) = none
+-- the other three outputs have other paths
+others : (path : List ℕ) (asked : AskedRun) (load : Option (List ℕ)) → HasPathAlone (Of State) path (run_outputs (saving asked load path))
+    → (asked.frames ≡ path → ⊥) × (asked.wave ≡ path → ⊥) × (asked.listing ≡ path → ⊥)
+others path asked load (inl here) = absurd (cc (ap (λ (one : WantedOutput Target). one.output) here.0))
+others path asked load (inr (frames, inl here)) = absurd (cc (ap (λ (one : WantedOutput Target). one.output) here.0))
+others path asked load (inr (frames, inr (wave, inl here))) = absurd (cc (ap (λ (one : WantedOutput Target). one.output) here.0))
+others path asked load (inr (frames, inr (wave, inr (listing, last)))) = (frames, wave, listing)
 
 module _ {Disk File R : Type 0} (handling : Handling Disk File) (took : File → List ℕ → File → Type 0) (refused : File → File → Type 0)
     (wrote : R → List ℕ → R → Type 0) (balked : R → R → Type 0) where
@@ -50,6 +27,22 @@ module _ {Disk File R : Type 0} (handling : Handling Disk File) (took : File →
     wanted =
         film_output asked Frames asked.frames ∷ film_output asked Wave asked.wave ∷ film_output asked Listing asked.listing
         ∷ drafted (Of State) path ∷ []
+
+    -- so the text is that of the state, after which none comes
+    state-text : (file : File) (found : Option (List ℕ)) → HasNewText text_of path wanted (shown ∷ sounded ∷ listed ∷ file ∷ []) found
+        → found ≡ Some (text_of file)
+    state-text file found (inl here) = absurd (frames here.0)
+    state-text file found (inr (apart, inl here)) = absurd (wave here.0)
+    state-text file found (inr (apart, inr (other, inl here))) = absurd (listing here.0)
+    state-text file found (inr (apart, inr (other, inr (third, inl here)))) = here.1
+    state-text file found (inr (apart, inr (other, inr (third, inr none)))) = absurd (none.0 refl)
+
+    not-last : HasLater path wanted → ⊥
+    not-last (inl here) = frames here.0
+    not-last (inr (inl here)) = wave here.0
+    not-last (inr (inr (inl here))) = listing here.0
+    not-last (inr (inr (inr (inl here)))) = here.1
+    not-last (inr (inr (inr (inr none)))) = none
 
     new-state : (created left : Option File) (outcome : Outcome) (found : Option (List ℕ))
         → AllBegun handling old (drafted (Of State) path ∷ []) (option_to_list created) new
@@ -66,9 +59,7 @@ module _ {Disk File R : Type 0} (handling : Handling Disk File) (took : File →
           plan_is = resumed.plan_is;
           board = resumed.holds.board;
           is_first = resumed.holds.is_first;
-          found_is = state-text path (film_output asked Frames asked.frames) (film_output asked Wave asked.wave)
-              (film_output asked Listing asked.listing) frames wave listing text_of shown sounded listed final found has
-              ∙ ap (λ (bytes : List ℕ). Some bytes)
+          found_is = state-text final found has ∙ ap (λ (bytes : List ℕ). Some bytes)
               (keeps.grows draft final text resumed.holds.holds.state_is
               ∙ ap (λ bytes. bytes ++ text) (keeps.empty old begun.0 draft begun.1));
         }
@@ -82,29 +73,19 @@ module _ {Disk File R : Type 0} (handling : Handling Disk File) (took : File →
         → EndsInState inputs from before found answer
     state-ends created left before found begun (Ok ended) (Ok outcome) performs fails text =
         new-state created left ended found begun performs text
-    state-ends created left before found begun (Err failure) (Ok outcome) performs fails text =
-        absurd (true≢false (ap is_done (fails failure refl)))
+    state-ends created left before found begun (Err failure) (Ok outcome) performs fails text = absurd (cc (fails failure refl))
     state-ends created left before found begun ran (Err failure) performs fails (inl same) = same
-    state-ends created left before found begun ran (Err failure) performs fails (inr whole) =
-        absurd (not-last path (film_output asked Frames asked.frames) (film_output asked Wave asked.wave)
-        (film_output asked Listing asked.listing) frames wave listing whole.1)
+    state-ends created left before found begun ran (Err failure) performs fails (inr whole) = absurd (not-last whole.1)
 
   pub states-whole : StatesAreWhole handling took refused wrote balked
   states-whole named text_of asked load from path keeps alone report report_left given parts old answer new performed =
       let left = run_output_files performed.left in
       let settles = performed.settled in
       let to = writings_of took refused performed.created performed.left (writing wrote balked report report_left) in
-      let whole = stays keeps (Of State) (saving asked load path) given parts old answer new alone performed
-      (λ outcome is.
-      state-there handling took refused performed.inputs to from (Some path) performed.created.state performed.left.state
-      performed.all_begun.2.2.0 performed.during outcome performed.ran is performed.all_begun.2.2.2 performed.performed) in
-      let last = drafted (Of State) path ∷ [] in
-      let wave = film_output asked Wave asked.wave in
-      let listing = film_output asked Listing asked.listing in
-      let first = other-path path (film_output asked Frames asked.frames) (wave ∷ listing ∷ last) refl alone in
-      let second = other-path path wave (listing ∷ last) refl first.1 in
-      let third = other-path path listing last refl second.1 in
-      state-ends keeps asked first.0 second.0 third.0 performed.inputs to from performed.left.frames performed.left.wave
+      let whole = (outputs-whole handling took refused wrote balked wrote balked report report_left report report_left named text_of
+      (Of State) path keeps).of_runs from (saving asked load path) given parts old answer new alone performed in
+      let apart = others path asked load alone in
+      state-ends keeps asked apart.0 apart.1 apart.2 performed.inputs to from performed.left.frames performed.left.wave
       performed.left.listing performed.all_begun.2.2.0 performed.during performed.created.state performed.left.state (named old) (named new)
       performed.all_begun.2.2.2 performed.ran answer performed.performed
       (λ failure is. stays-failed handling (run_outputs (saving asked load path)) left failure performed.ran settles.so_far answer

@@ -1,8 +1,7 @@
 -- The folder of a path: what stands before its last slash.
-use Rattle.pac_run_files.proofs.Common.{List, MatchOption, NoCharPasses-char, None, Option, RFindsChar, Some, [], ap, arith, before_slash}
-use Rattle.pac_run_files.proofs.Common.{drop, drop_at_char, get_or, length, option_map, put_before, refl, slash, suc, sym, take}
-use Rattle.pac_run_files.proofs.Common.{take-append-drop, ℕ, ◌++◌, ◌+◌, ◌<◌, ◌∙◌, ◌∷◌, ◌≡◌, ◌≢◌, ◌≤◌}
-use Rattle.std.specs.Borrow.{Bor}
+use Rattle.pac_run_files.proofs.Common.{Bor, List, MatchOption, NoCharPasses-char, None, Option, RFindsChar, Some, [], ap, arith}
+use Rattle.pac_run_files.proofs.Common.{before_slash, drop, drop_at_char, get_or, length, option_map, put_before, refl, slash, suc, sym}
+use Rattle.pac_run_files.proofs.Common.{take, take-append-drop, ℕ, ◌++◌, ◌+◌, ◌<◌, ◌∙◌, ◌∷◌, ◌≡◌, ◌≢◌, ◌≤◌}
 
 -- no byte is a slash
 abbrev pub HasNone : List ℕ → Type 0

@@ -1,14 +1,10 @@
 -- Names that are followed part by part.
 use Rattle.pac_run_files.proofs.Common.{Bool, Bor, FindsLink, Follows, Global, IsReached, Leads, LeadsOn, List, MeetsPart, None, Option}
-use Rattle.pac_run_files.proofs.Common.{PlaceReached, Some, String, Way, [], ap, append-nil, codes, false}
-use Rattle.pac_run_files.proofs.Common.{if◌then◌else◌, is_joined, lengthen, name_parts, option_map, parts_left, refl, slash, string_bytes}
-use Rattle.pac_run_files.proofs.Common.{links_past, rules, subst, suc, sym, true, way_along, way_from, way_of_place, zero, ℕ, ◌++◌, ◌==◌}
-use Rattle.pac_run_files.proofs.Common.{◌∙◌, ◌∷◌, ◌≡◌}
+use Rattle.pac_run_files.proofs.Common.{PlaceReached, Some, String, Way, [], ap, append-nil, false, if◌then◌else◌, is_joined, lengthen}
+use Rattle.pac_run_files.proofs.Common.{links_past, name_parts, option_map, parts_left, refl, rules, slash, string_bytes, suc, sym, true}
+use Rattle.pac_run_files.proofs.Common.{way_along, way_from, way_of_place, zero, ℕ, ◌++◌, ◌==◌, ◌∙◌, ◌∷◌, ◌≡◌}
 use Rattle.pac_run_files.specs.declared.links.Met.TheVariants as met
 use Rattle.pac_run_files.specs.declared.links.Rest.TheVariants as rest
-
-abbrev pub some-way : (path : List ℕ) (depth : ℕ) (parts : List (List ℕ)) (links : ℕ) → Option Way
-some-way path depth parts links = Some (record { path = path; depth = depth; parts = parts; links = links })
 
 module _ (finds : FindsLink) where
   -- one step more
@@ -18,58 +14,31 @@ module _ (finds : FindsLink) where
   -- the parts that are left, told otherwise
   pub at-parts : (from : Way) (place : PlaceReached) (parts same : List (List ℕ)) (links : ℕ) → parts ≡ same
       → IsReached finds from (way_of_place place parts links) → IsReached finds from (way_of_place place same links)
-  at-parts from place parts same links equal reached = subst (λ (left : List (List ℕ)). IsReached finds from (way_of_place place left
-      links)) equal reached
+  at-parts from place parts same links equal reached = rw equal at reached
 
   -- past a part
   pub part-on : (from : Way) (old : PlaceReached) (part : List ℕ) (parts : List (List ℕ)) (links : ℕ) (new : PlaceReached)
       → IsReached finds from (way_of_place old (part ∷ parts) links) → MeetsPart finds old part met.Past new
       → IsReached finds from (way_of_place new parts links)
   part-on from old part parts links new reached meets =
-      one-on from (way_of_place old (part ∷ parts) links) (way_of_place new parts links) reached (
-        None,
-        meets.0,
-        ap (λ (path : List ℕ). some-way path new.depth parts links) meets.2
-            ∙ sym (ap (option_map (λ (depth : ℕ). record {
-              path = string_bytes old.path ++ codes "/" ++ part;
-              depth = depth;
-              parts = parts;
-              links = links;
-            })) meets.1),
-      )
+      one-on from (way_of_place old (part ∷ parts) links) (way_of_place new parts links) reached (None, meets.0, rw (meets.1, meets.2))
 
   -- at a part that leads out
   pub part-out : (old : PlaceReached) (part : List ℕ) (parts : List (List ℕ)) (links : ℕ) (new : PlaceReached)
-      → MeetsPart finds old part met.Out new
-      → LeadsOn finds (way_of_place old (part ∷ parts) links) None
-  part-out old part parts links new meets = (
-    None,
-    meets.0,
-    sym (ap (option_map (λ (depth : ℕ). record {
-      path = string_bytes old.path ++ codes "/" ++ part;
-      depth = depth;
-      parts = parts;
-      links = links;
-    })) meets.1),
-  )
+      → MeetsPart finds old part met.Out new → LeadsOn finds (way_of_place old (part ∷ parts) links) None
+  part-out old part parts links new meets = (None, meets.0, rw meets.1)
 
   -- at a link
   pub at-link : (from : (links : ℕ) → Way) (old new : PlaceReached) (part : List ℕ) (parts : List (List ℕ)) (text : String Global)
       → ((links : ℕ) → IsReached finds (from links) (way_of_place old (part ∷ parts) links)) → MeetsPart finds old part (met.Link text) new
       → (one : List ℕ) × finds (string_bytes new.path) one (Some (string_bytes text))
       × ((links : ℕ) → IsReached finds (from links) (way_of_place new (one ∷ parts) links))
-  at-link from old new part parts text reached meets = (
-    part,
-    subst (λ (place : PlaceReached). finds (string_bytes place.path) part (Some (string_bytes text))) (sym meets.1) meets.0,
-    λ links. subst (λ (place : PlaceReached). IsReached finds (from links) (way_of_place place (part ∷ parts) links)) (sym meets.1)
-        (reached links),
-  )
+  at-link from old new part parts text reached meets = (part, rw meets.1 meets.0, λ links. rw meets.1 (reached links))
 
   -- one stretch after another
   pub both : (from mid to : Way) → IsReached finds from mid → IsReached finds mid to → IsReached finds from to
-  both from mid to first (zero, reached) = subst (λ (end : Way). IsReached finds from end) (sym reached) first
-  both from mid to first (suc steps, (before, reached, goes)) =
-      one-on from before to (both from mid before first (steps, reached)) goes
+  both from mid to first (zero, reached) = rw reached first
+  both from mid to first (suc steps, (before, reached, goes)) = one-on from before to (both from mid before first (steps, reached)) goes
 
 -- a text has a first part
 first-by : (byte : ℕ) (parts : List (List ℕ)) (is_slash : Bool) → (part : List ℕ) × (more : List (List ℕ)) × (parts ≡ part ∷ more)
@@ -119,22 +88,19 @@ module _ (finds : FindsLink) (folder name : List ℕ) (place new : PlaceReached)
     (reached : IsReached finds (way_from folder name) (way_of_place place (name_parts text) links)) where
   pub lead-end : Follows finds place (name_parts text) rest.End new → Leads finds folder name (Some (string_bytes new.path))
   lead-end follows =
-      let all = both finds (way_from folder name) (way_of_place place (name_parts text) links) (way_of_place new [] links) reached
-      (follows links) in
+      let all = both finds (way_from folder name) _ (way_of_place new [] links) reached (follows links) in
       record { steps = all.0; last = way_of_place new [] links; reached = all.1; ends = (refl, refl) }
 
   pub lead-out : Follows finds place (name_parts text) rest.Out new → Leads finds folder name None
   lead-out follows =
       let one = follows links in
-      let all = both finds (way_from folder name) (way_of_place place (name_parts text) links) one.0 reached one.1 in
+      let all = both finds (way_from folder name) _ one.0 reached one.1 in
       record { steps = all.0; last = one.0; reached = all.1; ends = one.2 }
 
-  module _ (link : String Global) (more : Option (Bor (List ℕ))) (follows : Follows finds place (name_parts text) (rest.Link link more)
-      new) where
+  module _ (link : String Global) (more : Option (Bor (List ℕ)))
+      (follows : Follows finds place (name_parts text) (rest.Link link more) new) where
     pub to-link : IsReached finds (way_from folder name) (way_of_place new (follows.0 ∷ parts_left more) links)
-    to-link = both finds (way_from folder name) (way_of_place place (name_parts text) links) (way_of_place new (follows.0 ∷ parts_left
-        more) links)
-        reached (follows.2 links)
+    to-link = both finds (way_from folder name) _ (way_of_place new (follows.0 ∷ parts_left more) links) reached (follows.2 links)
 
     pub lead-none : None ≡ links_past links (string_bytes link) → Leads finds folder name None
     lead-none none = record {
@@ -147,11 +113,6 @@ module _ (finds : FindsLink) (folder name : List ℕ) (place new : PlaceReached)
     pub link-on : (joined : List ℕ) (left : ℕ) → is_joined link more joined → Some left ≡ links_past links (string_bytes link)
         → IsReached finds (way_from folder name) (way_of_place new (name_parts joined) left)
     link-on joined left is past =
-        at-parts finds (way_from folder name) new (name_parts (string_bytes link) ++ parts_left more) (name_parts joined) left
-        (sym (parts-of-joined link more joined is))
-        (one-on finds (way_from folder name) (way_of_place new (follows.0 ∷ parts_left more) links)
-        (way_of_place new (name_parts (string_bytes link) ++ parts_left more) left) to-link (
-          Some (string_bytes link),
-          follows.1,
-          rw (along-is links, ← past) refl,
-        ))
+        at-parts finds (way_from folder name) new _ _ left (sym (parts-of-joined link more joined is)) (one-on finds (way_from folder name)
+        (way_of_place new (follows.0 ∷ parts_left more) links) (way_of_place new (name_parts (string_bytes link) ++ parts_left more) left)
+        to-link (Some (string_bytes link), follows.1, rw (along-is links, ← past) refl))

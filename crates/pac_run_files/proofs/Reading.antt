@@ -1,8 +1,7 @@
 -- Files that are read one after another.
-use Rattle.pac_run_files.proofs.Common.{Bool, Err, FindsFile, FirstUnread, Global, HasParts, IsPart, IsUnread, Leads, LeadsIf, List}
-use Rattle.pac_run_files.proofs.Common.{MayFind, Memory, NamedFile, None, Ok, Option, Plain, ReadFault, ReadsFiles, Result, Some}
-use Rattle.pac_run_files.proofs.Common.{Unreadable, Vec, [], folder_of, inl, inr, is_within_folder, part_files, standing_by, subst, sym}
-use Rattle.pac_run_files.proofs.Common.{true, ℕ, ◌++◌, ◌∷◌, ◌≡◌}
+use Rattle.pac_run_files.proofs.Common.{Err, FindsFile, FirstUnread, Global, HasParts, IsPart, IsUnread, Leads, List, MayFind, Memory}
+use Rattle.pac_run_files.proofs.Common.{NamedFile, None, Ok, Option, Plain, ReadFault, ReadsFiles, Result, Some, Unreadable, Vec, []}
+use Rattle.pac_run_files.proofs.Common.{folder_of, inl, inr, is_within_folder, part_files, standing_by, true, ℕ, ◌++◌, ◌∷◌, ◌≡◌}
 
 module _ (finds : FindsFile) where
   -- after files that can be read, one that can't is the first
@@ -10,18 +9,16 @@ module _ (finds : FindsFile) where
       → HasParts finds set names parts → IsUnread finds (standing_by set name) told
       → FirstUnread finds (part_files set (names ++ name ∷ more)) told
   unread-after set [] [] name more told read unread = inl unread
-  unread-after set [] (part ∷ parts) name more told read unread = absurd read
-  unread-after set (one ∷ names) [] name more told read unread = absurd read
   unread-after set (one ∷ names) (part ∷ parts) name more told read unread =
       inr ((record { bytes = part.bytes.items; found = read.0.found }), unread-after set names parts name more told read.1 unread)
+  unread-after set _ _ name more told read unread = absurd read
 
   -- one part more
   pub part-more : (set : List ℕ) (names : List (List ℕ)) (parts : List NamedFile) (name : List ℕ) (part : NamedFile)
       → HasParts finds set names parts → IsPart finds set name part → HasParts finds set (names ++ name ∷ []) (parts ++ part ∷ [])
   part-more set [] [] name part read last = (last, tt)
-  part-more set [] (one ∷ parts) name part read last = absurd read
-  part-more set (one ∷ names) [] name part read last = absurd read
   part-more set (one ∷ names) (file ∷ parts) name part read last = (read.0, part-more set names parts name part read.1 last)
+  part-more set _ _ name part read last = absurd read
 
 -- a fault of one file, as that of all
 pub as-first : {A B : Type 0} (one : A → Type 0) (all : B → Type 0) (unread first : List ℕ → Type 0) (fault : ReadFault)
@@ -35,7 +32,7 @@ module _ (finds : FindsFile) (set name path : List ℕ) (within : is_within_fold
   found-there : (found : Option (List ℕ)) → finds.bytes Plain path found → MayFind finds (standing_by set name) found
   found-there found there = record {
     path = Some path;
-    placed = subst (λ (is_within : Bool). LeadsIf is_within finds.link (folder_of set) name (Some path)) (sym within) leads;
+    placed = rw within leads;
     found_there = there;
   }
 

@@ -16,5 +16,4 @@ module _ (most : ℕ) (bytes : List ℕ) where
   many None read large = tt
   many (Some known) read large =
       let count = ap length read in
-      let cut = length-take (most + 1) known in
-      omega (arith, large, count, cut)
+      let cut = length-take (most + 1) known in omega (arith, large, count, cut)

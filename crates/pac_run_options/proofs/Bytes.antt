@@ -24,8 +24,7 @@ read_is gives text None only h = go (is_unsigned_in 0 255 text) refl
 -- what the rows say where u8 was read from the first value
 pub dip_read : {E : Type 0} (f : Found) (id : List ℕ) (gives : List ℕ → Result ℕ E → Type 0) (r : Option ℕ)
     → (one_text f id ≡ None → r ≡ None) → ((t : List ℕ) → one_text f id ≡ Some t → ReadsOne gives t r)
-    → ((u : List ℕ) (x : Result ℕ E) → gives u x → ParsesUnsigned 8 10 u x)
-    → option_and_then byte_of_text (one_of id (rows_of f)) ≡ r
+    → ((u : List ℕ) (x : Result ℕ E) → gives u x → ParsesUnsigned 8 10 u x) → option_and_then byte_of_text (one_of id (rows_of f)) ≡ r
 dip_read f id gives r none given only = ap (option_and_then byte_of_text) (sym (one_text-rows f id)) ∙ go (one_text f id) refl
   where
     go : (o : Option (List ℕ)) → one_text f id ≡ o → option_and_then byte_of_text o ≡ r

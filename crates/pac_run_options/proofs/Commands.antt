@@ -1,11 +1,9 @@
 -- What building a command makes of what clap reads of it.
-use Rattle.pac_run_options.proofs.Common.{AddsArg, AddsInTurn, AddsSubcommand, App, Arg, Argument, Command, IfOk-weaker, List, Ok, Result}
-use Rattle.pac_run_options.proofs.Common.{Rule, [], add-one, ap, app_of, app_of_command, append-nil, append_assoc, ap₂, arith, both}
-use Rattle.pac_run_options.proofs.Common.{command, common_steps, drop, drop-cons, false, fold, get_or, is_simple_arg, length, list_all, map}
-use Rattle.pac_run_options.proofs.Common.{map-append, out-Command, rule_of, rules, shape_of, sym, told_argument, true, with_rule, ℕ, ◌++◌}
-use Rattle.pac_run_options.proofs.Common.{◌+◌, ◌<◌, ◌∙◌, ◌∷◌, ◌≡◌}
-use Rattle.std.specs.Prelude.{IfOk}
-use Rattle.clap.specs.Words.{Text, with_subcommand}
+use Rattle.pac_run_options.proofs.Common.{AddsArg, AddsInTurn, AddsSubcommand, App, Arg, Argument, Command, IfOk, IfOk-weaker, List, Ok}
+use Rattle.pac_run_options.proofs.Common.{Result, Rule, Text, [], add-one, ap, app_of, app_of_command, append-nil, append_assoc, ap₂, arith}
+use Rattle.pac_run_options.proofs.Common.{both, command, common_steps, drop, drop-cons, false, fold, get_or, is_simple_arg, length}
+use Rattle.pac_run_options.proofs.Common.{list_all, map, map-append, out-Command, rule_of, rules, shape_of, sym, told_argument, true}
+use Rattle.pac_run_options.proofs.Common.{with_rule, with_subcommand, ℕ, ◌++◌, ◌+◌, ◌<◌, ◌∙◌, ◌∷◌, ◌≡◌}
 
 -- ---- what holds for no subcommand
 
@@ -25,14 +23,9 @@ told-simple row = search rules
 -- one more argument, of those that are to be added by their rows
 pub one-fewer : (rows : List Argument) (i : ℕ) (d : Argument) (args new : List Arg) (a : Arg) (total : List Rule)
     → map rule_of args ++ map told_argument (drop i rows) ≡ total → new ≡ args ++ a ∷ [] → rule_of a ≡ told_argument (get_or rows i d)
-    → i < length rows
-    → map rule_of new ++ map told_argument (drop (i + 1) rows) ≡ total
+    → i < length rows → map rule_of new ++ map told_argument (drop (i + 1) rows) ≡ total
 one-fewer rows i d args new a total before joined is below =
-    ap (λ all. map rule_of all ++ map told_argument (drop (i + 1) rows)) joined
-    ∙ ap (λ rules. rules ++ map told_argument (drop (i + 1) rows)) (map-append rule_of args (a ∷ []))
-    ∙ append_assoc (map rule_of args) (rule_of a ∷ []) (map told_argument (drop (i + 1) rows))
-    ∙ ap₂ (λ (rule : Rule) (k : ℕ). map rule_of args ++ rule ∷ map told_argument (drop k rows)) is (add-one i)
-    ∙ sym (ap (λ (rest : List Argument). map rule_of args ++ map told_argument rest) (drop-cons rows i d below)) ∙ before
+    rw (joined, map-append rule_of args (a ∷ []), append_assoc, is) (rw (← before, drop-cons rows i d below, add-one i))
 
 -- the arguments of some rows, added in turn to a command with others
 added : (rows : List Argument) (args : List Arg) (old new : Command) (name : Text) (first : List Rule)
@@ -57,8 +50,7 @@ both-added none first all shared own is some more = search rules
 -- a command with what others take too, and then its own
 pub with-rows : (shared own : List Argument) (args : List Arg) (old new : Command) (name : Text)
     → map rule_of args ≡ map told_argument shared ++ map told_argument own → app_of old ≡ app_of_command (command name [])
-    → AddsInTurn AddsArg old args new
-    → app_of new ≡ app_of_command (command name (map told_argument shared ++ map told_argument own))
+    → AddsInTurn AddsArg old args new → app_of new ≡ app_of_command (command name (map told_argument shared ++ map told_argument own))
 with-rows shared own args old new name is before h =
     let joined = map-append told_argument shared own in
     added (shared ++ own) args old new name [] (is ∙ sym joined) before h ∙ ap (λ rules. app_of_command (command name rules)) joined
@@ -71,17 +63,12 @@ pub one-more : {L E : Type 0} (items : L → List Command) (before : Result L E)
     → IfOk after (λ r. (old : L) × (new : Command) × (before ≡ Ok old) × (made ≡ Ok new) × (items r ≡ items old ++ new ∷ []))
     → IfOk before (λ v. map app_of (items v) ≡ apps) → IfOk made (λ c. app_of c ≡ app)
     → IfOk after (λ v. map app_of (items v) ≡ apps ++ app ∷ [])
-one-more {L = L} items before made after apps app joined some one = IfOk-weaker after _ _ step joined
-  where
-    step : (r : L) → (old : L) × (new : Command) × (before ≡ Ok old) × (made ≡ Ok new) × (items r ≡ items old ++ new ∷ [])
-        → map app_of (items r) ≡ apps ++ app ∷ []
-    step r h = grind (arith, map-append)
+one-more items before made after apps app joined some one = IfOk-weaker after _ _ (λ r h. grind (arith, map-append)) joined
 
 -- subcommands added in turn to a program that has some
 pub added-commands : (apps : List App) (subs : List Command) (old new : Command) (app : App)
     → list_all (λ below. below.top.is_plain) apps ≡ true → map app_of subs ≡ apps → app_of old ≡ app
-    → AddsInTurn AddsSubcommand old subs new
-    → app_of new ≡ fold (λ top below. with_subcommand top below.top) app apps
+    → AddsInTurn AddsSubcommand old subs new → app_of new ≡ fold (λ top below. with_subcommand top below.top) app apps
 added-commands [] [] old new app plain is before same = rw (← same) before
 added-commands (below ∷ apps) (sub ∷ subs) old new app plain is before h =
     let parts = both below.top.is_plain _ plain in

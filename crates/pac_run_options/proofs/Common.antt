@@ -6,7 +6,7 @@ pub use Rattle.clap.proofs.ValueTestLemmas.{Accepts-accepts, accepts-Accepts}
 pub use Rattle.clap.proofs.WalkLemmas.{both, first_value-rows, one_text-rows}
 pub use Rattle.clap.specs.Kinds.{or_else}
 pub use Rattle.clap.specs.Matches.{ReadsOne, matched_of, one_text}
-pub use Rattle.clap.specs.Simple.{app_of_fields, new_shape, shape_of, subcommand_rows, with_subcommand}
+pub use Rattle.clap.specs.Simple.{app_of_fields, shape_of, subcommand_rows, with_subcommand}
 pub use Rattle.clap.specs.Takes.{is_given}
 pub use Rattle.clap.specs.ValueTests.{is_unsigned_in}
 pub use Rattle.clap.specs.Walk.{Row, Text, is_simple_arg, one_of, rows_of}
@@ -25,13 +25,13 @@ pub use Rattle.clap.specs.declared.parser.matches.ValueSource.TheVariants.{Comma
 pub use Rattle.pac_run_options.specs.CommandLine.{Asked, AskedDebug, AskedPlay, AskedRun, asked_command, byte_of_text, command, conflict_of}
 pub use Rattle.pac_run_options.specs.CommandLine.{own_faults_of}
 unfoldable pub use Rattle.pac_run_options.specs.CommandLine.{faults_of, pacboard, request_of}
-pub use Rattle.pac_run_options.specs.CommandLineProofs.{app_of_command, told_debug, told_play, told_request, told_run}
+pub use Rattle.pac_run_options.specs.CommandLineProofs.{app_of_command, told_request}
 pub use Rattle.pac_run_options.specs.Rows.{told_argument}
 pub use Rattle.pac_run_options.specs.declared.command.Argument.{Argument}
 pub use Rattle.pac_run_options.specs.declared.request.Request.{Request}
-pub use Rattle.std.proofs.Common.{Bool, Err, Global, IfOk, List, None, Ok, Option, Result, Some, Vec, [], add-one, ap, append-nil}
-pub use Rattle.std.proofs.Common.{append_assoc, ap₂, arith, codes, cond, drop, drop-cons, false, fold, get_or, is_some, length, map}
-pub use Rattle.std.proofs.Common.{option_map, refl, rules, subst, sym, true, ℕ, ◌++◌, ◌+◌, ◌<◌, ◌^◌, ◌∙◌, ◌∷◌, ◌≡◌}
+pub use Rattle.std.proofs.Common.{Bool, Err, IfOk, List, None, Ok, Option, Result, Some, [], add-one, ap, append-nil, append_assoc, ap₂}
+pub use Rattle.std.proofs.Common.{arith, codes, cond, drop, drop-cons, false, fold, get_or, is_some, length, map, option_map, refl, rules}
+pub use Rattle.std.proofs.Common.{sym, true, ℕ, ◌++◌, ◌+◌, ◌<◌, ◌^◌, ◌∙◌, ◌∷◌, ◌≡◌}
 pub use Rattle.std.proofs.lemmas.Grind.{common_steps}
 pub use Rattle.std.proofs.lemmas.List.{map-append}
 pub use Rattle.std.proofs.lemmas.Result.{IfOk-weaker}

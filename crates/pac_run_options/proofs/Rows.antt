@@ -1,9 +1,8 @@
 -- From what clap's getters answer to the rows.
 use Rattle.pac_run_options.proofs.Common.{ArgMatches, Bool, Bor, Box, CommandLine, DefaultValue, Found, List, None, Option, Row, Some}
-use Rattle.pac_run_options.proofs.Common.{SubCommand, Text, ValueSource, arith, box_value, false, is_given, is_some, matched_of}
+use Rattle.pac_run_options.proofs.Common.{SubCommand, Text, ValueSource, arith, box_value, false, found_of, is_given, is_some, matched_of}
 use Rattle.pac_run_options.proofs.Common.{option_and_then, option_map, out-SubCommand, present_row, rows_of, rules, subcommand_rows, true}
 use Rattle.pac_run_options.proofs.Common.{◌≡◌}
-use Rattle.clap.specs.Matches.{found_of}
 
 -- whether the words give an option, by where its values came from and whether there are any
 abbrev pub given_by : Option ValueSource → Bool → Bool

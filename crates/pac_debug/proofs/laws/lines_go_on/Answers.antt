@@ -1,6 +1,5 @@
 -- By induction over the lines.
-use Rattle.pac_board.specs.SinksLaws.{by}
 use Rattle.pac_debug.proofs.GoingOn.{comes-to}
 
 pub returns : Rattle.pac_debug.proofs.laws.lines_go_on.Goals.returns
-returns g c = comes-to (by g.S.Sink.took g.S.Sink.refused) g.W.Out.took g.W.Out.refused
+returns g c = comes-to _ _ _

@@ -5,22 +5,16 @@ use Rattle.pac_debug.proofs.lines.commands.Goals as goal
 
 pub loop-line-preserved : goal.loop-line-preserved
 loop-line-preserved g c =
-    leads-on (by g.S.Sink.took g.S.Sink.refused) g.W.Out.took g.W.Out.refused (lines c.args.bytes.now) (lines c.loop-line.rest.now)
-    (lines c.in-Some.after.now) c.in-Some.line.now
-    (record { session = c.args.session.now; sink = c.args.sink.now; text = c.args.text.now })
-    (record { session = c.loop-line.session; sink = c.loop-line.sink; text = c.loop-line.text })
-    (record { session = c.command.new.session; sink = c.command.new.sink; text = c.command.new.text })
+    leads-on (by g.S.Sink.took g.S.Sink.refused) g.W.Out.took g.W.Out.refused (lines c.args.bytes.now) _ _ _ _
+    (record { session = c.loop-line.session; sink = c.loop-line.sink; text = c.loop-line.text }) _
     c.in-Some.ensures.some c.loop-line.invariant c.in_ok-command.ensures
 
 -- whatever the lines ask, what was given follows from how they were obeyed
 pub returns-in_err-command-clause-given : goal.returns-in_err-command-clause-given
 returns-in_err-command-clause-given g c =
-    let old : Scene g.row.S.Denot g.row.W.Denot
-    = record { session = c.args.session.now; sink = c.args.sink.now; text = c.args.text.now } in
-    let now : Scene g.row.S.Denot g.row.W.Denot
-    = record { session = c.loop-line.session; sink = c.loop-line.sink; text = c.loop-line.text } in
-    let next : Scene g.row.S.Denot g.row.W.Denot
-    = record { session = c.command.new.session; sink = c.command.new.sink; text = c.command.new.text } in
+    let old : Scene _ _ = record { session = c.args.session.now; sink = c.args.sink.now; text = c.args.text.now } in
+    let now : Scene _ _ = record { session = c.loop-line.session; sink = c.loop-line.sink; text = c.loop-line.text } in
+    let next : Scene _ _ = record { session = c.command.new.session; sink = c.command.new.sink; text = c.command.new.text } in
     let whole = lines c.args.bytes.now in
     let fault = c.in_err-command.field-0.0 in
     let obeyed =
@@ -31,10 +25,8 @@ returns-in_err-command-clause-given g c =
 
 pub returns-clause-given : goal.returns-clause-given
 returns-clause-given g c =
-    let old : Scene g.row.S.Denot g.row.W.Denot
-    = record { session = c.args.session.now; sink = c.args.sink.now; text = c.args.text.now } in
-    let now : Scene g.row.S.Denot g.row.W.Denot
-    = record { session = c.loop-line.session; sink = c.loop-line.sink; text = c.loop-line.text } in
+    let old : Scene _ _ = record { session = c.args.session.now; sink = c.args.sink.now; text = c.args.text.now } in
+    let now : Scene _ _ = record { session = c.loop-line.session; sink = c.loop-line.sink; text = c.loop-line.text } in
     let whole = lines c.args.bytes.now in
     let obeyed =
     leads-to-end (by g.S.Sink.took g.S.Sink.refused) g.W.Out.took g.W.Out.refused whole (lines c.loop-line.rest.now) old now

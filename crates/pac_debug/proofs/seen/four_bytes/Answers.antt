@@ -6,8 +6,7 @@ unfolding bytes_from
 returns c =
     let s = c.args.session.now in
     let board = c.board-board.result.now in
-    let seen : (at : ℕ) → read_of board.set.program board.state.now.board.memory at ≡ session_byte_at s at
-    = grind (arith, common_steps) in
+    let seen : (at : ℕ) → read_of board.set.program board.state.now.board.memory at ≡ session_byte_at s at = grind (arith, common_steps) in
     let second = c.offset-second.ensures in
     let third : c.offset-third.result ≡ wrapped_address (wrapped_address (c.args.at + 1) + 1) = search rules in
     let fourth : c.offset-fourth.result ≡ wrapped_address (wrapped_address (wrapped_address (c.args.at + 1) + 1) + 1) =

@@ -9,8 +9,7 @@ returns-in-Err g c =
     let frames = writing g.F.Out.took g.F.Out.refused c.args.frames.now c.args.frames.now in
     let broke = header-broke play frames refl refl (lent_took g.W.Out.took) (lent_refused g.W.Out.refused) _ c.total.result
     c.begin-wave.result c.flush.new.self c.in-Err.fault c.total.ensures.count c.begin-wave.ensures.text c.in-Err.ensures.written in
-    rw c.of_wave.ensures
-    (breaks (itself frames)
+    rw c.of_wave.ensures (breaks (itself frames)
     (carries-back g.W.Out.took g.W.Out.refused _ c.flush.new.self.file.writer _ _ c.into_writer.ensures (assumption)) play Wave
     c.in-Err.fault.count broke)
 

@@ -5,8 +5,4 @@ pub returns-in-Ok : goal.returns-in-Ok
 returns-in-Ok g c = c.in-Ok.ensures
 
 pub returns-in-Err : goal.returns-in-Err
-returns-in-Err g c = record {
-  fault = c.in-Err.fault;
-  told = search rules;
-  left = c.in-Err.ensures;
-}
+returns-in-Err g c = record { fault = c.in-Err.fault; told = search rules; left = c.in-Err.ensures }

@@ -1,5 +1,5 @@
-use Rattle.pac_run_command.proofs.Common.{Global, HasParts, Memory, NamedFile, Vec, inl, inr, manifest_part_names, refl, told_run}
-use Rattle.pac_run_command.proofs.Reading.{unread-reason, part-unread, all-read}
+use Rattle.pac_run_command.proofs.Common.{Global, HasParts, Memory, NamedFile, Vec, inl, inr, manifest_part_names, refl}
+use Rattle.pac_run_command.proofs.Reading.{unread-reason}
 use Rattle.pac_run_command.proofs.Recorded.{silent-in}
 use Rattle.pac_run_command.proofs.record.run_given.Goals as goal
 
@@ -14,15 +14,15 @@ returns-in_default-clause-runs g c = inl (record {
 
 pub returns-clause-runs : goal.returns-clause-runs
 returns-clause-runs g c =
-    let finds = g.D.FileSystem.finds c.args.disk.now in
     inl (record {
       failure = c.read_failure.result;
       reason = unread-reason {A = Vec NamedFile Global}
-          (λ parts. HasParts finds c.args.files.now.run.set.now (manifest_part_names c.in-Ok.manifest) parts.items) _ _
-          c.in-Err.fault c.read_failure.result
-          (part-unread finds (told_run c.args.files.now.run) c.args.given.now c.requires c.deref.result.now c.in-Ok.manifest
-          c.deref.ensures.value c.in-Ok.ensures)
-          c.in-Err.ensures c.read_failure.ensures;
+          (λ parts. HasParts (g.D.FileSystem.finds c.args.disk.now) c.args.files.now.run.set.now (manifest_part_names c.in-Ok.manifest)
+          parts.items) _ _ c.in-Err.fault c.read_failure.result (λ name unread. record {
+            given = c.args.given.now;
+            given_are = c.requires;
+            first = rw (← c.deref.ensures.value, ← c.in-Ok.ensures) unread;
+          }) c.in-Err.ensures c.read_failure.ensures;
       fails = c.tell-in-Err.ensures.fails;
       unchanged = refl;
       is_silent = silent-in c.args.manner refl refl;
@@ -32,9 +32,10 @@ pub returns-in-Ok-read_parts-clause-runs : goal.returns-in-Ok-read_parts-clause-
 returns-in-Ok-read_parts-clause-runs g c = inr (record {
   given = c.args.given.now;
   parts = c.deref-in-Ok-read_parts.result.now;
-  read = all-read (g.D.FileSystem.finds c.args.disk.now) (told_run c.args.files.now.run) c.args.given.now c.requires c.deref.result.now
-      c.in-Ok.manifest c.deref.ensures.value c.in-Ok.ensures c.deref-in-Ok-read_parts.result.now c.in-Ok-read_parts.named.items
-      c.deref-in-Ok-read_parts.ensures.value c.in-Ok-read_parts.ensures;
+  read = record {
+    given_are = c.requires;
+    parts_are = rw (c.deref-in-Ok-read_parts.ensures.value, ← c.deref.ensures.value, ← c.in-Ok.ensures) c.in-Ok-read_parts.ensures;
+  };
   answer = c.record.result;
   records = c.record.ensures.records;
   ends = c.end.ensures.ends;

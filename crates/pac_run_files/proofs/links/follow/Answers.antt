@@ -1,14 +1,7 @@
-use Rattle.pac_run_files.proofs.Common.{FindsLink, List, MeetsPart, Met, None, PlaceReached, Some, [], ap, arith, name_parts, rules, slash}
-use Rattle.pac_run_files.proofs.Common.{split_parts, subst, way_of_place, ℕ, ◌∙◌, ◌∷◌, ◌≡◌}
-use Rattle.pac_run_files.specs.declared.links.Met.TheVariants as met
+use Rattle.pac_run_files.proofs.Common.{None, Some, [], ap, arith, name_parts, rules, slash, split_parts, way_of_place, ◌∙◌, ◌∷◌}
 use Rattle.pac_run_files.proofs.NameParts.{parts-split, parts-none}
 use Rattle.pac_run_files.proofs.Following.{part-on, part-out, at-parts, at-link}
 use Rattle.pac_run_files.proofs.links.follow.Goals as goal
-
-module _ (finds : FindsLink) (old new : PlaceReached) (part : List ℕ) where
-  -- what is met, as it is
-  as-met : (met other : Met) → met ≡ other → MeetsPart finds old part met new → MeetsPart finds old part other new
-  as-met met other same meets = subst (λ (one : Met). MeetsPart finds old part one new) same meets
 
 pub parts-preserved : goal.parts-preserved
 parts-preserved g c =
@@ -20,7 +13,7 @@ parts-preserved g c =
       λ links. part-on finds (way_of_place c.args.place.now (name_parts c.args.text.now) links) c.parts.place part (name_parts more)
           links c.meet.new.place
           (at-parts finds _ c.parts.place _ _ links (ap name_parts split.0 ∙ parts-split part more split.1) (c.parts.invariant.1 links))
-          (as-met finds c.parts.place c.meet.new.place part c.in_ok-meet.field-0 met.Past c.in-Past.is c.in_ok-meet.ensures),
+          (rw c.in-Past.is at c.in_ok-meet.ensures),
     )
 
 pub returns-in-Out : goal.returns-in-Out
@@ -31,8 +24,7 @@ returns-in-Out g c = λ links.
     let split = split_parts slash c.parts.left.now (Some (c.in-Some.part, c.in-Some.more)) c.in-Some.ensures.cases (omega arith) in (
       way_of_place c.parts.place (part ∷ name_parts more) links,
       at-parts finds _ c.parts.place _ _ links (ap name_parts split.0 ∙ parts-split part more split.1) (c.parts.invariant.1 links),
-      part-out finds c.parts.place part (name_parts more) links c.meet.new.place
-          (as-met finds c.parts.place c.meet.new.place part c.in_ok-meet.field-0 met.Out c.in-Out.is c.in_ok-meet.ensures),
+      part-out finds c.parts.place part (name_parts more) links c.meet.new.place (rw c.in-Out.is at c.in_ok-meet.ensures),
     )
 
 pub returns-in-Link : goal.returns-in-Link
@@ -41,21 +33,19 @@ returns-in-Link g c =
     let part = c.in-Some.part.now in
     let more = c.in-Some.more.now in
     let split = split_parts slash c.parts.left.now (Some (c.in-Some.part, c.in-Some.more)) c.in-Some.ensures.cases (omega arith) in
-    let meets = as-met finds c.parts.place c.meet.new.place part c.in_ok-meet.field-0 (met.Link c.in-Link.link) c.in-Link.is
-    c.in_ok-meet.ensures in
+    let meets = rw c.in-Link.is at c.in_ok-meet.ensures in
     at-link finds (λ links. way_of_place c.args.place.now (name_parts c.args.text.now) links) c.parts.place c.meet.new.place part
-    (name_parts more)
-    c.in-Link.link (λ links. at-parts finds _ c.parts.place _ _ links (ap name_parts split.0 ∙ parts-split part more split.1)
-    (c.parts.invariant.1 links)) meets
+    (name_parts more) c.in-Link.link
+    (λ links. at-parts finds _ c.parts.place _ _ links (ap name_parts split.0 ∙ parts-split part more split.1) (c.parts.invariant.1 links))
+    meets
 
 pub returns-in-Past-2 : goal.returns-in-Past-2
 returns-in-Past-2 g c = λ links.
     let finds = (g.D.FileSystem.finds c.args.disk.now).link in
     let none = split_parts slash c.parts.left.now None c.in_default.ensures.cases (omega arith) in
     part-on finds (way_of_place c.args.place.now (name_parts c.args.text.now) links) c.parts.place c.parts.left.now [] links
-    c.meet-2.new.place
-    (at-parts finds _ c.parts.place _ _ links (parts-none c.parts.left.now none) (c.parts.invariant.1 links))
-    (as-met finds c.parts.place c.meet-2.new.place c.parts.left.now c.in_ok-meet-2.field-0 met.Past c.in-Past-2.is c.in_ok-meet-2.ensures)
+    c.meet-2.new.place (at-parts finds _ c.parts.place _ _ links (parts-none c.parts.left.now none) (c.parts.invariant.1 links))
+    (rw c.in-Past-2.is at c.in_ok-meet-2.ensures)
 
 pub returns-in-Out-2 : goal.returns-in-Out-2
 returns-in-Out-2 g c = λ links.
@@ -63,9 +53,7 @@ returns-in-Out-2 g c = λ links.
     let none = split_parts slash c.parts.left.now None c.in_default.ensures.cases (omega arith) in (
       way_of_place c.parts.place (c.parts.left.now ∷ []) links,
       at-parts finds _ c.parts.place _ _ links (parts-none c.parts.left.now none) (c.parts.invariant.1 links),
-      part-out finds c.parts.place c.parts.left.now [] links c.meet-2.new.place
-          (as-met finds c.parts.place c.meet-2.new.place c.parts.left.now c.in_ok-meet-2.field-0 met.Out c.in-Out-2.is
-          c.in_ok-meet-2.ensures),
+      part-out finds c.parts.place c.parts.left.now [] links c.meet-2.new.place (rw c.in-Out-2.is at c.in_ok-meet-2.ensures),
     )
 
 pub returns-in-Link-2 : goal.returns-in-Link-2
@@ -73,7 +61,6 @@ returns-in-Link-2 g c =
     let finds = (g.D.FileSystem.finds c.args.disk.now).link in
     let part = c.parts.left.now in
     let none = split_parts slash c.parts.left.now None c.in_default.ensures.cases (omega arith) in
-    let meets = as-met finds c.parts.place c.meet-2.new.place part c.in_ok-meet-2.field-0 (met.Link c.in-Link-2.link) c.in-Link-2.is
-    c.in_ok-meet-2.ensures in
+    let meets = rw c.in-Link-2.is at c.in_ok-meet-2.ensures in
     at-link finds (λ links. way_of_place c.args.place.now (name_parts c.args.text.now) links) c.parts.place c.meet-2.new.place part []
     c.in-Link-2.link (λ links. at-parts finds _ c.parts.place _ _ links (parts-none part none) (c.parts.invariant.1 links)) meets

@@ -15,7 +15,6 @@ loop-character-preserved g c = λ plain.
 pub returns : goal.returns
 returns g c = λ plain ok.
     let end = YieldsList-end (YieldsList-from_chars c.args.name.now c.utf8.name cc) c.loop-character.yielded _ c.loop-character.yielded_by
-    _ _
-    c.in-None.is c.next.ensures.steps in
-    has_written_of_eq _ _ _ _ _ (ap (flat_map told_character) (sym (map-id c.loop-character.yielded)
-    ∙ end.0)) (c.loop-character.invariant plain)
+    _ _ c.in-None.is c.next.ensures.steps in
+    has_written_of_eq _ _ _ _ _ (ap (flat_map told_character) (sym (map-id c.loop-character.yielded) ∙ end.0))
+    (c.loop-character.invariant plain)

@@ -1,5 +1,5 @@
-use Rattle.pac_run_files.proofs.Common.{FirstUnread, Global, HasParts, IsPart, IsUnread, List, NamedFile, Vec, [], drop, get_or, map}
-use Rattle.pac_run_files.proofs.Common.{map-one-more, map-split, part_files, rules, standing_by, subst, take, ℕ, ◌++◌, ◌+◌, ◌∷◌}
+use Rattle.pac_run_files.proofs.Common.{FirstUnread, Global, HasParts, IsPart, IsUnread, NamedFile, Vec, [], drop, get_or, map}
+use Rattle.pac_run_files.proofs.Common.{map-one-more, map-split, part_files, rules, standing_by, take, ◌++◌, ◌+◌, ◌∷◌, ◌≡◌}
 use Rattle.pac_run_files.proofs.Reading.{as-first, part-more, unread-after}
 use Rattle.pac_run_files.proofs.parts.read_all.Goals as goal
 
@@ -9,12 +9,9 @@ loop-name-preserved g c =
     let names = c.args.names.now in
     let i = c.loop-name.name-index in
     let name = (get_or names i (record { ref_ptr = (0, 0); now = [] })).now in
-    subst (λ (some : List (List ℕ)). HasParts finds c.args.set.now some c.push.new.self.items)
-    (map-one-more (λ name. name.now) names i (record { ref_ptr = (0, 0); now = [] }) c.loop-name-test.true)
-    (subst (λ (files : List NamedFile). HasParts finds c.args.set.now (map (λ name. name.now) (take i names) ++ name ∷ []) files)
-    (search rules)
-    (part-more finds c.args.set.now (map (λ name. name.now) (take i names)) c.loop-name.parts.items name c.in-Ok.part c.loop-name.invariant
-    c.in-Ok.ensures))
+    let files : c.loop-name.parts.items ++ c.in-Ok.part ∷ [] ≡ c.push.new.self.items = search rules in
+    rw (← map-one-more (λ name. name.now) names i (record { ref_ptr = (0, 0); now = [] }) c.loop-name-test.true, ← files) (part-more finds
+    c.args.set.now (map (λ name. name.now) (take i names)) c.loop-name.parts.items name c.in-Ok.part c.loop-name.invariant c.in-Ok.ensures)
 
 pub returns-in-Err : goal.returns-in-Err
 returns-in-Err g c =
@@ -26,8 +23,6 @@ returns-in-Err g c =
     as-first {A = NamedFile} {B = Vec NamedFile Global} (IsPart finds set name)
     (λ parts. HasParts finds set (map (λ name. name.now) names) parts.items)
     (IsUnread finds (standing_by set name)) (FirstUnread finds (part_files set (map (λ name. name.now) names))) c.in-Err.fault
-    (λ told unread. subst (λ (all : List (List ℕ)). FirstUnread finds (part_files set all) told)
-    (map-split (λ name. name.now) names i (record { ref_ptr = (0, 0); now = [] }) c.loop-name-test.true)
+    (λ told unread. rw (map-split (λ name. name.now) names i (record { ref_ptr = (0, 0); now = [] }) c.loop-name-test.true) at
     (unread-after finds set (map (λ name. name.now) (take i names)) c.loop-name.parts.items name
-    (map (λ name. name.now) (drop (i + 1) names)) told c.loop-name.invariant unread))
-    c.in-Err.ensures
+    (map (λ name. name.now) (drop (i + 1) names)) told c.loop-name.invariant unread)) c.in-Err.ensures

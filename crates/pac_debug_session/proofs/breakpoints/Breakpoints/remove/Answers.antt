@@ -1,6 +1,5 @@
 -- The other addresses stay, and stay marked.
-use Rattle.pac_debug_session.proofs.Common.{AreStops, List, Some, ap, filter, filter-from_retain, not, rules, slice_set, subst, sym, ℕ}
-use Rattle.pac_debug_session.proofs.Common.{◌==◌, ◌∙◌, ◌≡◌}
+use Rattle.pac_debug_session.proofs.Common.{ap, filter, filter-from_retain, not, rules, slice_set, ◌==◌, ◌∙◌, ◌≡◌}
 use Rattle.pac_debug_session.proofs.Marked.{one-unmarked}
 use Rattle.pac_debug_session.proofs.breakpoints.Breakpoints.remove.Goals as goal
 
@@ -10,9 +9,7 @@ invariant_of-self c =
     = filter-from_retain _ (λ other. not (other == c.args.address)) _ (λ x b f' y k. search rules) _ _ c.retain.ensures.filtered in
     let marks : slice_set c.deref_mut.result.now c.from.result 0 ≡ slice_set c.self.inside.marks.value c.args.address 0
     = λ i. slice_set (c.deref_mut.ensures.value i) (c.from.ensures i) 0 in
-    subst (AreStops (Some (slice_set c.deref_mut.result.now c.from.result 0))) (sym kept)
-    (subst (λ (left : List ℕ). AreStops (Some left) (filter (λ other. not (other == c.args.address)) c.self.inside.list.items)) (sym marks)
-    (one-unmarked c.self.inside.marks.value c.self.inside.list.items c.args.address (search rules) c.self.invariant))
+    rw (kept, marks) (one-unmarked c.self.inside.marks.value c.self.inside.list.items c.args.address (search rules) c.self.invariant)
 
 pub returns : goal.returns
 returns c =

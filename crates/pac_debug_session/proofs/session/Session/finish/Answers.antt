@@ -21,5 +21,4 @@ returns-in_err-offer g c =
 pub returns-in_err-ending : goal.returns-in_err-ending
 returns-in_err-ending g c =
     let told = err_from_is_err_and c.from_residual-in_err-ending.result c.from_residual-in_err-ending.ensures.1 in
-    rw told.1
-    (inr (finish-refused _ _ _ _ c.in_ok-offer.ensures.1 _ _ _ c.in_ok-offer.ensures.0 c.in_err-ending.ensures))
+    rw told.1 (inr (finish-refused _ _ _ _ c.in_ok-offer.ensures.1 _ _ _ c.in_ok-offer.ensures.0 c.in_err-ending.ensures))

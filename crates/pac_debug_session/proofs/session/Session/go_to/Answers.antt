@@ -1,6 +1,6 @@
 -- The session stands at what the slot keeps.
-use Rattle.pac_debug_session.proofs.Common.{BoardValue, Empty, None, Ok, Option, ReturnsTo, SessionValue, Some, ap, arith, get_or, length}
-use Rattle.pac_debug_session.proofs.Common.{map, mark_of, nothing_due, refl, restored_board, session_setting, subst, sym, ℕ, ◌<◌, ◌∙◌, ◌≡◌}
+use Rattle.pac_debug_session.proofs.Common.{BoardValue, None, SessionValue, Some, ap, arith, get_or, length, map, mark_of, nothing_due}
+use Rattle.pac_debug_session.proofs.Common.{refl, restored_board, session_setting, sym, ◌<◌, ◌∙◌, ◌≡◌}
 use Rattle.pac_debug_session.proofs.Slots.{IsFilled, filled-at, mark-at, stands-at, standing-there, right-there, value-there}
 use Rattle.pac_debug_session.proofs.Steppings.{with_board}
 use Rattle.pac_debug_session.proofs.session.Session.go_to.Goals as goal
@@ -48,6 +48,4 @@ returns c =
     (full shared).kept.nothing
     ∙ ap (λ (s : SessionValue). record s { index = index; due = nothing_due }) c.self.view_is
     ∙ ap (λ due. record c.args.self.now { index = index; due = due }) (sym c.requires.nothing) in
-    subst (λ (mark : Option ℕ). ReturnsTo {E = Empty} c.args.self.now mark (Ok tt)
-    (with_board inside.switches inside.script c.put_back.new.board inside.furthest inside.breakpoints marks inside.replayed))
-    (sym found) value
+    rw found value

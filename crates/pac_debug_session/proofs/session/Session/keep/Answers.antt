@@ -1,9 +1,7 @@
 -- The slot keeps what stands.
-use Rattle.pac_debug_session.proofs.Common.{AreSlotsRight, BoardValue, List, Option, SessionSnapshot, SessionValue, ap, kept_of, map}
-use Rattle.pac_debug_session.proofs.Common.{map-set, mark_of, nothing_due, session_setting, session_with_slot, set, subst, sym, true, ℕ}
-use Rattle.pac_debug_session.proofs.Common.{◌∙◌, ◌≡◌}
+use Rattle.pac_debug_session.proofs.Common.{BoardValue, SessionValue, ap, kept_of, map-set, mark_of, nothing_due, session_setting}
+use Rattle.pac_debug_session.proofs.Common.{session_with_slot, true, ◌∙◌, ◌≡◌}
 use Rattle.pac_debug_session.proofs.Slots.{right-set}
-use Rattle.pac_debug_session.proofs.Steppings.{with_board}
 use Rattle.pac_debug_session.proofs.session.Session.keep.Goals as goal
 
 pub invariant_of-self : goal.invariant_of-self
@@ -20,11 +18,8 @@ invariant_of-self c =
       unasked = c.self.invariant.unasked;
       standing = stands;
       slots =
-          subst (λ (k : SessionSnapshot). AreSlotsRight (session_setting inside) inside.furthest
-          (set inside.slots.items c.args.slot (record { kept = k; filled = true }))) (sym kept)
-          (right-set (session_setting inside) inside.furthest inside.slots.items c.args.slot
-          (record { kept = kept_of board inside.history; filled = true }) c.self.invariant.slots
-          (λ filled. record {
+          rw kept (right-set (session_setting inside) inside.furthest inside.slots.items c.args.slot
+          (record { kept = kept_of board inside.history; filled = true }) c.self.invariant.slots (λ filled. record {
             now = stands.now_is;
             nothing = nothing;
             unasked = c.self.invariant.unasked;
@@ -39,8 +34,4 @@ returns c =
     let board = inside.board.value in
     let kept : c.write.new.self ≡ kept_of board inside.history
     = c.write.ensures ∙ ap (λ (b : BoardValue). kept_of b inside.history) c.deref.ensures in
-    ap (λ (k : SessionSnapshot). with_board inside.switches inside.script board inside.furthest inside.breakpoints
-    (map mark_of (set inside.slots.items c.args.slot (record { kept = k; filled = true }))) inside.replayed) kept
-    ∙ ap (λ (marks : List (Option ℕ)). with_board inside.switches inside.script board inside.furthest inside.breakpoints marks
-    inside.replayed) (map-set mark_of inside.slots.items c.args.slot (record { kept = kept_of board inside.history; filled = true }))
-    ∙ ap (λ (s : SessionValue). session_with_slot s c.args.slot) c.self.view_is
+    rw (kept, map-set mark_of inside.slots.items c.args.slot) (ap (λ (s : SessionValue). session_with_slot s c.args.slot) c.self.view_is)

@@ -58,5 +58,4 @@ returns g c =
     let heeded = heeded_if c.args.heeds old.breakpoints in
     let moved : c.unless_moved.result ≡ stop_unless (nat_lt old.index new.state.now.steps) c.go-played.result
     = c.unless_moved.ensures ∙ (λ i. stop_unless (nat_lt (index_is i) (end_is i)) c.go-played.result) in
-    let leaps = leaps-so old stands.within stands.goes to _ _ _ _ _ _ _ limit_is _ c.stops-stops.ensures _ gone in
-    grind (arith, session_on)
+    let leaps = leaps-so old stands.within stands.goes to _ _ _ _ _ _ _ limit_is _ c.stops-stops.ensures _ gone in grind (arith, session_on)

@@ -1,7 +1,6 @@
 -- The session stands at the beginning of its run.
-use Rattle.pac_debug_session.proofs.Common.{ap, arith, board_with_inputs, held, length, map, mark_of, rules, ◌*◌, ◌∙◌, ◌≡◌}
+use Rattle.pac_debug_session.proofs.Common.{ap, arith, board_with_inputs, held, length, rules, ◌*◌, ◌∙◌, ◌≡◌}
 use Rattle.pac_debug_session.proofs.Begun.{new-asked, stands-first, right-empty, value-first}
-use Rattle.pac_debug_session.proofs.Steppings.{with_board}
 use Rattle.pac_debug_session.proofs.session.Session.new.Goals as goal
 
 pub invariant_of-result : goal.invariant_of-result
@@ -25,6 +24,4 @@ returns-clause-session c =
     let board = c.args.board.value in
     let switches : c.peek-switches.result ≡ board.state.now.board.memory.switches = search rules in
     let hold : c.hold.new.board ≡ board_with_inputs board (held c.args.script 1) = search rules in
-    ap (λ breakpoints. with_board c.peek-switches.result c.args.script c.hold.new.board 0 breakpoints (map mark_of c.in-Ok.slots.items) 0)
-    c.in-Ok.ensures.5
-    ∙ value-first _ _ _ _ switches c.requires hold _ c.in-Ok.ensures.3 c.in-Ok.ensures.4
+    rw c.in-Ok.ensures.5 (value-first _ _ _ _ switches c.requires hold _ c.in-Ok.ensures.3 c.in-Ok.ensures.4)

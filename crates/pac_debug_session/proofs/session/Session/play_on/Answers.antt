@@ -1,28 +1,21 @@
 -- What was due, what was done before, and then the way on of a course.
-use Rattle.pac_debug_session.proofs.Common.{BoardValue, ap, by, course_of, err_from_is_err_and, frame_ticks, inl, inr, most_frames}
-use Rattle.pac_debug_session.proofs.Common.{outcome_at, subst, sym, ◌*◌, ◌+◌, ◌∙◌, ◌≤◌}
+use Rattle.pac_debug_session.proofs.Common.{BoardValue, ap, by, course_of, err_from_is_err_and, inl, inr, outcome_at, ◌∙◌}
 use Rattle.pac_debug_session.proofs.PlayedOn.{stands-there, played, ends-near, held-up}
 use Rattle.pac_debug_session.proofs.session.Session.play_on.Goals as goal
 
 pub outcome_on-requires : goal.outcome_on-requires
 outcome_on-requires g c =
-    let old = c.args.self in
-    let there =
-    stands-there (by g.S.Sink.took g.S.Sink.refused) old c.facts.ensures c.args.sink.now c.offer.new.sink c.in_ok-offer.ensures.1
-    c.offer.new.self c.replay.new.self c.furthest-furthest.result c.in_ok-offer.ensures.0 c.furthest-furthest.ensures c.replay.ensures in
-    subst (λ (board : BoardValue). board.state.now.time ≤ frame_ticks * (most_frames + 1)) (sym c.board.ensures)
-    (ends-near (by g.S.Sink.took g.S.Sink.refused) _ c.facts.ensures _ _ c.in_ok-offer.ensures.1 _ _ _ _
+    let there = stands-there (by g.S.Sink.took g.S.Sink.refused) c.args.self c.facts.ensures _ _ c.in_ok-offer.ensures.1 _ _ _
+    c.in_ok-offer.ensures.0 c.furthest-furthest.ensures c.replay.ensures in
+    rw c.board.ensures (ends-near (by g.S.Sink.took g.S.Sink.refused) _ c.facts.ensures _ _ c.in_ok-offer.ensures.1 _ _ _ _
     (c.into_course-course.ensures ∙ ap course_of there) c.in_ok-stop.ensures)
 
 pub returns : goal.returns
 returns g c =
-    let old = c.args.self in
-    let there =
-    stands-there (by g.S.Sink.took g.S.Sink.refused) old c.facts.ensures c.args.sink.now c.offer.new.sink c.in_ok-offer.ensures.1
-    c.offer.new.self c.replay.new.self c.furthest-furthest.result c.in_ok-offer.ensures.0 c.furthest-furthest.ensures c.replay.ensures in
-    let whole =
-    played (by g.S.Sink.took g.S.Sink.refused) old c.facts.ensures c.args.sink.now c.offer.new.sink c.in_ok-offer.ensures.1
-    c.into_course-course.result _ _ _ _ (c.into_course-course.ensures ∙ ap course_of there) c.in_ok-stop.ensures
+    let there = stands-there (by g.S.Sink.took g.S.Sink.refused) c.args.self c.facts.ensures _ _ c.in_ok-offer.ensures.1 _ _ _
+    c.in_ok-offer.ensures.0 c.furthest-furthest.ensures c.replay.ensures in
+    let whole = played (by g.S.Sink.took g.S.Sink.refused) _ c.facts.ensures _ _ c.in_ok-offer.ensures.1 _ _ _ _ _
+    (c.into_course-course.ensures ∙ ap course_of there) c.in_ok-stop.ensures
     (c.outcome_on.ensures ∙ ap (λ (board : BoardValue). outcome_at board.state.now c.in_ok-stop.stop) c.board.ensures) in
     record { left = whole.0; finishes = whole.1 }
 
@@ -33,10 +26,8 @@ returns-in_err-offer g c =
 
 pub returns-in_err-stop : goal.returns-in_err-stop
 returns-in_err-stop g c =
-    let old = c.args.self in
-    let there =
-    stands-there (by g.S.Sink.took g.S.Sink.refused) old c.facts.ensures c.args.sink.now c.offer.new.sink c.in_ok-offer.ensures.1
-    c.offer.new.self c.replay.new.self c.furthest-furthest.result c.in_ok-offer.ensures.0 c.furthest-furthest.ensures c.replay.ensures in
+    let there = stands-there (by g.S.Sink.took g.S.Sink.refused) c.args.self c.facts.ensures _ _ c.in_ok-offer.ensures.1 _ _ _
+    c.in_ok-offer.ensures.0 c.furthest-furthest.ensures c.replay.ensures in
     let told = err_from_is_err_and c.from_residual-in_err-stop.result c.from_residual-in_err-stop.ensures.1 in
     let stays =
     held-up _ _ c.facts.ensures _ _ c.in_ok-offer.ensures.1 _ _ _ (c.into_course-course.ensures ∙ ap course_of there)

@@ -7,8 +7,7 @@ use Rattle.pac_debug_session.proofs.session.Session.rewind.Goals as goal
 use Rattle.pac_debug_session.proofs.session.Session.rewind.Goals.{After-put_back}
 
 back : (c : After-put_back) → c.put_back.new.board ≡ restored_board c.self.inside.board.value c.get-kept.result.now.snapshot
-back c =
-    c.put_back.ensures.board ∙ ap (λ (b : BoardValue). restored_board b c.get-kept.result.now.snapshot) c.deref_mut.ensures.value
+back c = c.put_back.ensures.board ∙ ap (λ (b : BoardValue). restored_board b c.get-kept.result.now.snapshot) c.deref_mut.ensures.value
 
 at : (c : After-put_back) → IsKeptAt (session_setting c.self.inside) (checkpoint_steps * c.args.number) c.get-kept.result.now
 at c =
@@ -30,18 +29,15 @@ there c =
 pub invariant_of-self : goal.invariant_of-self
 invariant_of-self c =
     let inside = c.self.inside in
-    let kept = c.get-kept.result.now in
     let shared = (goal.at.invariant_of-self c).After-put_back in
     record {
       limit = c.self.invariant.limit;
       short = c.self.invariant.short;
       unasked = ap (λ (b : BoardValue). b.state.asked) (back shared) ∙ (at shared).unasked;
-      standing =
-          standing-there inside.switches inside.script inside.board.value c.put_back.new.board c.put_back.new.history kept inside.furthest
-          (back shared) c.put_back.ensures.history inside.checkpoints (there shared).0;
-      slots =
-          right-there inside.switches inside.script inside.board.value c.put_back.new.board c.put_back.new.history kept inside.furthest
-          (back shared) c.put_back.ensures.history inside.slots.items c.self.invariant.slots;
+      standing = standing-there inside.switches inside.script inside.board.value _ _ _ _ (back shared) c.put_back.ensures.history _
+          (there shared).0;
+      slots = right-there inside.switches inside.script inside.board.value _ _ _ _ (back shared) c.put_back.ensures.history _
+          c.self.invariant.slots;
       breakpoints = c.self.invariant.breakpoints;
     }
 

@@ -1,6 +1,5 @@
 -- From step to step.
-use Rattle.pac_debug_session.proofs.Common.{HasTravelled, MotionEnd, ap, arith, by, err_from_is_err_and, motion_ending, rules, subst, sym}
-use Rattle.pac_debug_session.proofs.Common.{◌∙◌}
+use Rattle.pac_debug_session.proofs.Common.{arith, by, err_from_is_err_and, rules, sym, ◌∙◌}
 use Rattle.pac_debug_session.proofs.Travelled.{underway-more, underway-met, underway-stopped, underway-refused}
 use Rattle.pac_debug_session.proofs.session.Session.travel.Goals as goal
 
@@ -15,19 +14,15 @@ onwards-preserved g c =
 pub returns-then-has_met : goal.returns-then-has_met
 returns-then-has_met g c =
     let so_far = c.onwards.invariant in
-    let word = c.word.ensures ∙ ap (motion_ending c.args.motion) c.breaks.ensures in
-    subst (λ (why : MotionEnd). HasTravelled g.S.Sink.took c.args.self.now c.args.motion c.args.sink.now why c.onwards.self c.onwards.sink)
-    (sym word)
-    (underway-met _ _ _ _ _ _ so_far.under _ so_far.from_is (sym c.is_late.ensures ∙ c.if-is_late.false)
-    (sym c.has_met.ensures ∙ c.if-has_met.true))
+    rw (c.word.ensures, c.breaks.ensures) (underway-met _ _ _ _ _ _ so_far.under _ so_far.from_is
+    (sym c.is_late.ensures ∙ c.if-is_late.false) (sym c.has_met.ensures ∙ c.if-has_met.true))
 
 pub returns-in-Some : goal.returns-in-Some
 returns-in-Some g c =
     let so_far = c.onwards.invariant in
     underway-stopped (by g.S.Sink.took g.S.Sink.refused) c.args.self.now c.args.motion c.args.sink.now c.onwards.self c.stride.new.self
     c.onwards.sink c.stride.new.sink c.in-Some.stop c.index-from.result so_far.from_is so_far.under
-    (sym c.is_late.ensures ∙ c.if-is_late.false) (sym c.has_met.ensures ∙ c.if-has_met.false)
-    (search rules)
+    (sym c.is_late.ensures ∙ c.if-is_late.false) (sym c.has_met.ensures ∙ c.if-has_met.false) (search rules)
 
 pub returns-in_err-stop : goal.returns-in_err-stop
 returns-in_err-stop g c =

@@ -1,5 +1,4 @@
-use Rattle.pac_run.proofs.Common.{arith, film_took, get_or, get_or_default, pos, rules, to_z-of_z, took-more, ◌∙◌, ◌≡◌}
-use mir.Syntax.{w16}
+use Rattle.pac_run.proofs.Common.{arith, film_took, get_or, get_or_default, pos, rules, to_z-of_z, took-more, w16, ◌∙◌, ◌≡◌}
 use mir.Val.{to_z, of_z}
 
 pub loop-sample-preserved : Rattle.pac_run.proofs.film.FilmSink.samples.Goals.loop-sample-preserved

@@ -10,18 +10,14 @@ returns-in-Ok g c =
     let last : c.board-in-Ok.result.now.state.now ≡ (way_on c.args.self.now).now =
     ap (λ (board : BoardValue). board.state.now) c.board-in-Ok.ensures
     ∙ ap (λ (course : CourseValue). course.board.state.now) c.in-Ok.ensures.course in
-    let time : c.time-time.result ≡ c.args.self.now.board.state.now.time =
-    c.time-time.ensures.time ∙ ap (λ (board : BoardValue). board.state.now.time) c.board.ensures in
-    let steps : c.steps-steps.result ≡ c.args.self.now.board.state.now.steps =
-    c.steps-steps.ensures ∙ ap (λ (board : BoardValue). board.state.now.steps) c.board-2.ensures in search rules
+    let time : c.time-time.result ≡ c.args.self.now.board.state.now.time = cc (c.time-time.ensures.time, c.board.ensures) in
+    let steps : c.steps-steps.result ≡ c.args.self.now.board.state.now.steps = cc (c.steps-steps.ensures, c.board-2.ensures) in search rules
 
 pub returns-in-Err : goal.returns-in-Err
-returns-in-Err g c =
-    let held_up = c.in-Err.ensures in
-    record {
-      given = _;
-      left = _;
-      cut = held_up.cut;
-      among = refused-among c.args.self.now held_up.steps held_up.cut;
-      told = tt;
-    }
+returns-in-Err g c = record {
+  given = _;
+  left = _;
+  cut = c.in-Err.ensures.cut;
+  among = refused-among c.args.self.now c.in-Err.ensures.steps c.in-Err.ensures.cut;
+  told = tt;
+}
