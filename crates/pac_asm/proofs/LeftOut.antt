@@ -1,13 +1,21 @@
--- Lines that are skipped leave nothing in a program.
-use Rattle.pac_asm.proofs.Common.{AllFit, AsmCode, AsmFault, Assembled, IsLeftOutIfSkipped, Line, LineLayout, List, Ok, Result, Skipped}
-use Rattle.pac_asm.proofs.Common.{SkippedLinesAreLeftOut, Some, Standing, Symbol, [], after_text, after_texts, ap, append-nil, append_assoc}
-use Rattle.pac_asm.proofs.Common.{arith, common_steps, conditional_of_line, false, first_standing, is_judged, length, length-append}
-use Rattle.pac_asm.proofs.Common.{line_at_place, phase1, phase2, program_of, refl, rules, same-Ok, same_Some, slice_get, slice_get-after}
-use Rattle.pac_asm.proofs.Common.{suc, sym, ℕ, ◌++◌, ◌+◌, ◌>>=◌, ◌∙◌, ◌∷◌, ◌≡◌}
+-- Lines that are skipped do nothing, and leave nothing in a program.
+use Rattle.pac_asm.proofs.Common.{IsPassedOver, List, Ok, SkippedLinesDoNothing, Standing, after_text, conditional_of_line, false}
+use Rattle.pac_asm.proofs.Common.{is_judged, refl, rules, ℕ, ◌≡◌, AllFit, AsmCode, AsmFault, Assembled, IsLeftOutIfSkipped, Line}
+use Rattle.pac_asm.proofs.Common.{LineLayout, Result, Skipped, SkippedLinesAreLeftOut, Some, Symbol, [], after_texts, ap, append-nil}
+use Rattle.pac_asm.proofs.Common.{append_assoc, arith, common_steps, first_standing, length, length-append, line_at_place, phase1, phase2}
+use Rattle.pac_asm.proofs.Common.{program_of, same-Ok, same_Some, slice_get, slice_get-after, suc, sym, ◌++◌, ◌+◌, ◌>>=◌, ◌∙◌, ◌∷◌}
+use Rattle.pac_asm.proofs.InTurn.{gone, if-ok, in-line-ok, first-line, text, laid}
 use Rattle.pac_asm_program.specs.declared.line.Line.TheVariants as entries
-use Rattle.pac_asm.proofs.Skipping.{passed-over}
-use Rattle.pac_asm.proofs.InTurn.{gone, if-ok, in-line-ok, first-line}
-use Rattle.pac_asm.proofs.Sizes.{text, laid}
+
+-- ---- they do nothing
+
+pub passed-over : (above after : Standing) (line : List ℕ) → is_judged above.conditions (conditional_of_line line) ≡ false →
+    after_text above line ≡ Ok after → IsPassedOver above after
+unfolding after_text
+passed-over above after line skipped is = search rules
+
+pub skipped-lines-do-nothing : SkippedLinesDoNothing
+skipped-lines-do-nothing = record { defines = passed-over; shown = λ symbols line. refl; places = refl }
 
 -- ---- the first phase
 
@@ -135,11 +143,6 @@ left-out texts below line program new filled first second made =
           ∙ entry _ _ _ _ _ _ _ _ _ r.fit (ap (phase2 new.symbols 1 [] (texts ++ line ∷ below)) (sym places) ∙ second);
     }
 
-by-lines : (all texts below : List (List ℕ)) (line : List ℕ) (program : Assembled) → all ≡ texts ++ line ∷ below
-    → (new : Standing) (filled : List Line) → phase1 1 first_standing all ≡ Ok new → phase2 new.symbols 1 [] all new.places ≡ Ok filled
-    → Has program filled new.symbols → IsLeftOutIfSkipped program texts line below
-by-lines all texts below line program parts new filled first second made = grind (arith, left-out)
-
 pub skipped-lines-are-left-out : SkippedLinesAreLeftOut
 unfolding program_of
-skipped-lines-are-left-out source program e texts below line parts = grind (arith, by-lines, gone, has, if-ok)
+skipped-lines-are-left-out source program e texts below line parts = grind (arith, gone, has, if-ok, left-out)

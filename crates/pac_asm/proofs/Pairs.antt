@@ -46,17 +46,9 @@ first-if : (above : ℕ) (below : List (List ℕ)) (is_open : Bool) → stays_op
     → found 1 above (above + 1) below ≡ shifted above (cond is_open (Some 0) (option_map (λ n. n + 1) (first_unclosed below)))
 first-if above below is_open e = search rules
 
-inner-if : (inner outermost above : ℕ) (below : List (List ℕ)) (is_open : Bool) →
-    stays_open (suc inner) (map conditional_of_line below) ≡ is_open
-    → found (suc (suc inner)) outermost (above + 1) below
-    ≡ cond is_open (Some outermost)
-    (shifted above (cond (stays_open 0 (map conditional_of_line below)) (Some 0) (option_map (λ n. n + 1) (first_unclosed below))))
-inner-if inner outermost above below is_open e = grind (arith, closed-inside, cond-false, cond-true, shifted-more)
-
 -- a line that opens and closes nothing
 other : (depth outermost above : ℕ) (below : List (List ℕ))
-    → found depth outermost (above + 1) below
-    ≡ before depth outermost above None below
+    → found depth outermost (above + 1) below ≡ before depth outermost above None below
 other depth outermost above below = search rules
 
 -- what is found after a line
@@ -66,7 +58,7 @@ found-after p below = found p.depth p.outermost p.above below
 step : (depth outermost above : ℕ) (word : Option Conditional) (below : List (List ℕ))
     → found-after (pairing_after_word (record { above = above; depth = depth; outermost = outermost }) word) below
     ≡ before depth outermost above word below
-step depth outermost above word below = grind (arith, cond-false, first-if, inner-if, ne_eqb, other)
+step depth outermost above word below = grind (arith, cond-false, first-if, ne_eqb, other, closed-inside, cond-true, shifted-more)
 
 -- what is known after some lines of a source
 pub record Kept (source rest : List ℕ) (p : Pairing) : Type 0 where
@@ -74,15 +66,11 @@ pub record Kept (source rest : List ℕ) (p : Pairing) : Type 0 where
   pub within : p.depth ≤ p.above
   pub same : found p.depth p.outermost p.above (lines rest) ≡ first_unclosed (lines source)
 
-within-after : (p : Pairing) (word : Option Conditional) → p.depth ≤ p.above → (pairing_after_word p word).depth ≤ p.above + 1
-within-after p word h = search rules
-
 above-after : (p : Pairing) (word : Option Conditional) → (pairing_after_word p word).above ≡ p.above + 1
 above-after p word = search rules
 
-pub kept : (source rest line below : List ℕ) (p q : Pairing) (word : Option Conditional) → q ≡ pairing_after_word p word →
-    word ≡ conditional_of_line line
-    → lines rest ≡ line ∷ lines below → Kept source rest p → Kept source below q
+pub kept : (source rest line below : List ℕ) (p q : Pairing) (word : Option Conditional) → q ≡ pairing_after_word p word
+    → word ≡ conditional_of_line line → lines rest ≡ line ∷ lines below → Kept source rest p → Kept source below q
 kept source rest line below p q word is w e was = let above : q.above ≡ p.above + 1 = ap (λ (r : Pairing). r.above) is ∙ above-after _ _ in
     let depth : q.depth ≡ (pairing_after_word p word).depth = ap (λ (r : Pairing). r.depth) is in
     let same_is =
@@ -91,7 +79,7 @@ kept source rest line below p q word is w e was = let above : q.above ≡ p.abov
     ∙ before-is p.depth p.outermost p.above line (lines below)
     ∙ ap (found p.depth p.outermost p.above) (sym e)
     ∙ was.same in
-    grind (arith, before-is, step, within-after)
+    grind (arith, before-is, step)
 
 pub begins : (source : List ℕ) → Kept source source (record { above = 0; depth = 0; outermost = 0 })
 begins source = record { counted = omega arith; within = omega arith; same = shifted-none (first_unclosed (lines source)) }

@@ -1,6 +1,6 @@
 -- The reserved words are distinct, and all that are reserved.
-use Rattle.pac_asm_operation.proofs.Common.{List, ReservedWordsAreDistinct, arith, directive_names, directive_of, distinct-by-test}
-use Rattle.pac_asm_operation.proofs.Common.{is_directive, is_distinct, is_reserved, is_some, is_some-lookup, is_written, keys_of, list_any}
+use Rattle.pac_asm_operation.proofs.Common.{List, ReservedWordsAreDistinct, arith, directive_of, distinct-by-test}
+use Rattle.pac_asm_operation.proofs.Common.{is_distinct, is_reserved, is_some, is_some-lookup, is_written, keys_of, list_any}
 use Rattle.pac_asm_operation.proofs.Common.{list_any-append, name_of, name_texts, operation_names, operation_names_are_distinct, refl}
 use Rattle.pac_asm_operation.proofs.Common.{reserved_words, true, ℕ, ◌≡◌}
 
@@ -12,12 +12,9 @@ named : (word : List ℕ) → is_some (name_of word) ≡ list_any (is_written wo
 unfolding name_of
 named word = is_some-lookup (is_written word) name_texts
 
-directed : (word : List ℕ) → is_directive word ≡ list_any (is_written word) (keys_of directive_names)
-unfolding directive_of
-directed word = is_some-lookup (is_written word) directive_names
-
 all-of : (word : List ℕ) → is_reserved word ≡ list_any (is_written word) reserved_words
-all-of word = grind (arith, directed, list_any-append, named, operation_names_are_distinct)
+unfolding directive_of
+all-of word = grind (arith, list_any-append, named, operation_names_are_distinct)
 
 pub reserved_words_are_distinct : ReservedWordsAreDistinct
 reserved_words_are_distinct = record { distinct = distinct-by-test is_written reserved_words test; all = all-of }

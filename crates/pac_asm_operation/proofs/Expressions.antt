@@ -20,12 +20,9 @@ ends-last inner last = refl
 front-more : (x y : Lexeme) (rest : List Lexeme) → front (x ∷ y ∷ rest) ≡ x ∷ front (y ∷ rest)
 front-more x y rest = search rules
 
-pub front-last : (inner : List Lexeme) (last : Lexeme) → front (inner ++ last ∷ []) ≡ inner
-front-last inner last = grind (arith, common_steps)
-
 pub closed-front : (inner : List Lexeme) (last : Lexeme) →
     (if ends_closed (inner ++ last ∷ []) then Some (front (inner ++ last ∷ [])) else None) ≡ (if closes last.kind then Some inner else None)
-closed-front inner last = grind (arith, ends-last, front-last)
+closed-front inner last = grind (arith, ends-last, common_steps)
 
 -- ---- parentheses as marks
 
@@ -61,16 +58,14 @@ pub record ClosedBy (rest : List Lexeme) (inner : List Mark) : Type 0 where
   pub marks : marks_of (front rest) ≡ inner
 
 closed-by : (rest : List Lexeme) (inner : List Mark) → marks_of rest ≡ inner ++ closing ∷ [] → ClosedBy rest inner
-closed-by [] [] is = absurd (cc)
 closed-by [] (m ∷ inner) is = absurd (cc)
 closed-by (x ∷ []) [] is = search rules
-closed-by (x ∷ []) (m ∷ []) is = absurd (cc)
 closed-by (x ∷ []) (m ∷ n ∷ inner) is = absurd (cc)
-closed-by (x ∷ y ∷ rest) [] is = absurd (cc)
 closed-by (x ∷ y ∷ rest) (m ∷ inner) is =
     let first : kind_mark x.kind x.text ≡ m = cc in
     let others : marks_of (y ∷ rest) ≡ inner ++ closing ∷ [] = cc in
     let more = closed-by (y ∷ rest) inner others in grind (arith, front-more)
+closed-by rest inner is = absurd (cc)
 
 -- ---- groups
 
@@ -110,12 +105,9 @@ group-expression first rest t opened closed is =
 
 -- ---- operands by their expression
 
-between-parts : (b : Bool) (before inner : List Lexeme) → (if b then Some before else None) ≡ Some inner → (b ≡ true) × (before ≡ inner)
-between-parts b before inner is = search rules
-
 pub memory-found : (tokens inner : List Lexeme) (t : Tree) → inside_parentheses tokens ≡ Some inner → expression_in inner ≡ Some t →
     expression_operand tokens ≡ Some (Memory t)
-memory-found tokens inner t stands is = grind (arith, and_parts, between-parts, group-expression)
+memory-found tokens inner t stands is = grind (arith, and_parts, group-expression)
 
 no-group : (tokens : List Lexeme) (t : Tree) → expression_in tokens ≡ Some (group t) →
     ((inner : List Lexeme) → inside_parentheses tokens ≡ Some inner → is_some (expression_in inner) ≡ false) → ⊥
@@ -169,9 +161,8 @@ pub known-tree : (tokens : List Token) → IsTree tokens → tree_in (views toke
 unfolding tree_in
 known-tree tokens known = (expression-parts (views tokens) (tree_within tokens) known).1
 
-pub answer-is : {A : Type 0} (f : Tree → A) (found : Option Tree) (t : Tree) (answer : A) → Some answer ≡ option_map f found →
-    found ≡ Some t →
-    answer ≡ f t
+pub answer-is : {A : Type 0} (f : Tree → A) (found : Option Tree) (t : Tree) (answer : A) → Some answer ≡ option_map f found
+    → found ≡ Some t → answer ≡ f t
 answer-is f found t answer is stands = search rules
 
 pub answer-stands : {A : Type 0} (f : Tree → A) (found : Option Tree) (t : Tree) → None ≡ option_map f found → found ≡ Some t → ⊥

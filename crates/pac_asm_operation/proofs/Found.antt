@@ -1,17 +1,78 @@
 -- What an operation keeps is the operation of the definitions, and the instruction found in its rows is the first that
 -- the whole table has.
-use Rattle.pac_asm_operation.proofs.Common.{All, AreNamed, Bool, Err, IfOk, IfSome, Instruction, IsKept, Lexeme, List, None, Ok, Operand}
-use Rattle.pac_asm_operation.proofs.Common.{Operands, Operation, OperationFault, Option, Range, Shape, Some, Token, Tree, [], and-false}
-use Rattle.pac_asm_operation.proofs.Common.{and_parts, ap, are_forms, arith, chosen_instruction, code, eqb-true, false, find, find-map-same}
-use Rattle.pac_asm_operation.proofs.Common.{find-same, fits, fits_row, get_or, if◌then◌else◌, instruction_in_row, instruction_of, is_form}
-use Rattle.pac_asm_operation.proofs.Common.{is_some, kept_operation, length, listed_shapes, map, ok_or, operand_pair, operands_of_parts}
-use Rattle.pac_asm_operation.proofs.Common.{operation_of, operation_size, option_and_then, option_map, parts_at_commas, parts_in_row}
-use Rattle.pac_asm_operation.proofs.Common.{position-all-fail, present_shape, refl, row_at, row_count, row_for, row_size, rows_named, rules}
-use Rattle.pac_asm_operation.proofs.Common.{seen_operand, seen_operands, seen_operation, suits, suits_as, suits_row, sym, unwrap_or}
-use Rattle.pac_asm_operation.proofs.Common.{value_named, valued_operands, with_tree, without_place, written_operands, ℕ, ℤ, ◌&&◌, ◌+◌, ◌<◌}
-use Rattle.pac_asm_operation.proofs.Common.{◌==◌, ◌∙◌, ◌∷◌, ◌≡◌}
+use Rattle.pac_asm_operation.proofs.Common.{All, All-head, All-tail, Bool, List, None, Option, Row, Some, [], ap, arith, cases_Bool}
+use Rattle.pac_asm_operation.proofs.Common.{common_steps, cond-false, cond-true, drop, find, get_or, get_or_default, if◌then◌else◌, inl}
+use Rattle.pac_asm_operation.proofs.Common.{inr, is_some, length, option_map, position, position-cons, refl, row_at, rows_named}
+use Rattle.pac_asm_operation.proofs.Common.{rows_named_from, rules, suc, sym, table, true, value_named, ℕ, ◌+◌, ◌<◌, ◌∙◌, ◌∷◌, ◌≡◌}
+use Rattle.pac_asm_operation.proofs.Common.{AreNamed, Err, IfOk, IfSome, Instruction, IsKept, Lexeme, Ok, Operand, Operands, Operation}
+use Rattle.pac_asm_operation.proofs.Common.{OperationFault, Range, Shape, Token, Tree, and-false, and_parts, are_forms, chosen_instruction}
+use Rattle.pac_asm_operation.proofs.Common.{code, eqb-true, false, find-map-same, find-same, fits, fits_row, instruction_in_row}
+use Rattle.pac_asm_operation.proofs.Common.{instruction_of, is_form, kept_operation, map, ok_or, operand_pair}
+use Rattle.pac_asm_operation.proofs.Common.{operands_of_parts, operation_of, operation_size, option_and_then, parts_at_commas, parts_in_row}
+use Rattle.pac_asm_operation.proofs.Common.{position-all-fail, present_shape, row_count, row_for, row_size, seen_operand, seen_operands}
+use Rattle.pac_asm_operation.proofs.Common.{seen_operation, suits, suits_as, suits_row, unwrap_or, valued_operands, with_tree}
+use Rattle.pac_asm_operation.proofs.Common.{without_place, written_operands, ℤ, ◌&&◌, ◌==◌}
 use denote.Ref.{Bor}
-use Rattle.pac_asm_operation.proofs.RowSearch.{named-search, found-at}
+
+-- ---- the rows with a name
+
+-- the rows from n on are these
+abbrev RowsFrom : ℕ → List Row → Type 0
+RowsFrom n rows = (k : ℕ) (d : Row) → k < length rows → row_at (n + k) ≡ get_or rows k d
+
+next-rows : (n : ℕ) (row : Row) (rows : List Row) → RowsFrom n (row ∷ rows) → RowsFrom (n + 1) rows
+next-rows n row rows from k d below =
+    let place : n + 1 + k ≡ n + suc k = omega arith in
+    ap row_at place ∙ from (suc k) d (omega (arith, below))
+
+search-from : (word : List ℕ) (p : Row → Bool) (n : ℕ) (rows : List Row) →
+    ((row : Row) → p row ≡ true → is_some (value_named row.operands.mnemonic word) ≡ true) → RowsFrom n rows →
+    find (λ m. p (row_at m)) (rows_named_from word n rows) ≡ option_map (λ k. n + k) (position p rows)
+search-from word p n [] named from = refl
+search-from word p n (row ∷ rows) named from =
+    let rest = search-from word p (n + 1) rows named (next-rows n row rows from) in
+    let here : row_at n ≡ row = ap row_at (let same : n ≡ n + 0 = omega arith in same) ∙ from 0 row (omega arith) in
+    let test : ℕ → Bool = λ m. p (row_at m) in
+    let right = ap (option_map (λ k. n + k)) (position-cons p row rows) in grind (arith, cases_Bool, cond-false, cond-true)
+
+same-option : (o : Option ℕ) → option_map (λ k. 0 + k) o ≡ o
+same-option o = search rules
+
+table-rows : RowsFrom 0 table
+unfolding row_at
+table-rows k d below = let place : 0 + k ≡ k = omega arith in ap row_at place ∙ get_or_default table k _ d below
+
+pub named-search : (word : List ℕ) (p : Row → Bool) → ((row : Row) → p row ≡ true → is_some (value_named row.operands.mnemonic word) ≡ true)
+    → position p table ≡ find (λ n. p (row_at n)) (rows_named word)
+unfolding rows_named
+named-search word p named = sym (search-from word p 0 table named table-rows ∙ same-option (position p table))
+
+-- ---- searches of a list of numbers
+
+pub record FoundAt (p : ℕ → Bool) (P : ℕ → Type 0) (n : ℕ) : Type 0 where
+  pub passes : p n ≡ true
+  pub holds : P n
+
+pub found-at : (p : ℕ → Bool) (P : ℕ → Type 0) (xs : List ℕ) (n : ℕ) → find p xs ≡ Some n → All P xs → FoundAt p P n
+found-at p P [] n found all = absurd (cc)
+found-at p P (x ∷ xs) n found all =
+    elim (cases_Bool (p x)) [
+      | inl passes ↦ grind (arith, All-head, cond-true)
+      | inr fails ↦
+          found-at p P xs n (sym (cond-false (p x) (Some x) (find p xs) fails) ∙ found) (All-tail P x xs all)
+    ]
+
+-- ---- one step of such a search
+
+pub found-placed : {Y : Type 0} (p : ℕ → Bool) (f : ℕ → Y) (xs : List ℕ) (k : ℕ) (y : Y) → k < length xs → find p (drop k xs) ≡ find p xs
+    → Some y ≡ (if p (get_or xs k 0) then Some (f (get_or xs k 0)) else None) → Some y ≡ option_map f (find p xs)
+found-placed p f xs k y below so_far is = grind (arith, common_steps)
+
+pub more-placed : {Y : Type 0} (p : ℕ → Bool) (f : ℕ → Y) (xs : List ℕ) (k : ℕ) → k < length xs → find p (drop k xs) ≡ find p xs
+    → None ≡ (if p (get_or xs k 0) then Some (f (get_or xs k 0)) else None) → find p (drop (k + 1) xs) ≡ find p xs
+more-placed p f xs k below so_far is = grind (arith, common_steps)
+
+-- ---- what an operation keeps is the operation of the definitions
 
 abbrev pub Place : Type 0
 Place = Bor (List Token)
@@ -57,13 +118,9 @@ first-is word rows family operands are named =
 present-long : {A : Type 0} (b : Shape) (y z : Operand A) (zs : List (Operand A)) → are_forms (present_shape b) (y ∷ z ∷ zs) ≡ false
 present-long b y z zs = search rules
 
-listed-long : {A : Type 0} (a b : Shape) (x y z : Operand A) (zs : List (Operand A)) →
-    are_forms (listed_shapes a b) (x ∷ y ∷ z ∷ zs) ≡ false
-listed-long a b x y z zs = grind (arith, and-false, present-long)
-
 written-long : {A : Type 0} (form : Operands) (value : ℕ) (x y z : Operand A) (zs : List (Operand A)) →
     are_forms (written_operands form value) (x ∷ y ∷ z ∷ zs) ≡ false
-written-long form value x y z zs = grind (arith, listed-long)
+written-long form value x y z zs = grind (arith, and-false, present-long)
 
 no-row : (word : List ℕ) (operands : List (Operand Tree)) → 2 < length operands → row_for word operands ≡ None
 unfolding row_for
@@ -87,9 +144,8 @@ pub read-none : (word : List ℕ) (tokens : List Lexeme) → IfSome (operands_of
 unfolding operation_of
 read-none word tokens more = too-many word (operands_of_parts (parts_at_commas tokens)) more
 
-read-with : (word : List ℕ) (tokens : List Lexeme) (operands : List (Operand Tree)) →
-    operands_of_parts (parts_at_commas tokens) ≡ Some operands →
-    operation_of word tokens ≡ made word operands (row_for word operands)
+read-with : (word : List ℕ) (tokens : List Lexeme) (operands : List (Operand Tree))
+    → operands_of_parts (parts_at_commas tokens) ≡ Some operands → operation_of word tokens ≡ made word operands (row_for word operands)
 unfolding operation_of
 read-with word tokens operands are = ap (with_operands word) are
 
@@ -118,9 +174,8 @@ size-kept word rows family n size first second are named found is = grind (arith
 -- ---- the instruction
 
 pub instruction-fault : (names : List ℕ → Option ℤ) (here : ℕ) (word : List ℕ) (first second : Option (Operand Place))
-    (fault : OperationFault) →
-    Err fault ≡ valued_operands names here (seen_operands first second) →
-    Err fault ≡ instruction_of names here (seen_operation (kept_operation word first second))
+    (fault : OperationFault) → Err fault ≡ valued_operands names here (seen_operands first second)
+    → Err fault ≡ instruction_of names here (seen_operation (kept_operation word first second))
 unfolding instruction_of
 instruction-fault names here word first second fault is = search rules
 

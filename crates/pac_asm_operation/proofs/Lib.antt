@@ -1,12 +1,7 @@
 pub mod Common
 pub mod Expressions
 pub mod Commas
-pub mod FormPairs
-pub mod OperandLists
-pub mod FilledParts
-pub mod RowSearch
 pub mod Held
 pub mod Found
 pub mod Distinct
-pub mod Longer
 pub mod FirstLetter

@@ -7,8 +7,7 @@ use Rattle.pac_asm_program.proofs.Common.{rom_size, slice_index, suc, sym, take,
 use Rattle.pac_asm_program.proofs.Common.{◌≡◌}
 
 -- the byte at an address is that of the item that covers it
-byte-is : (items : List Item) → AreApart items → (k : ℕ) (d : Item) → k < length items → (cell : ℕ)
-    → covers (get_or items k d) cell ≡ true
+byte-is : (items : List Item) → AreApart items → (k : ℕ) (d : Item) → k < length items → (cell : ℕ) → covers (get_or items k d) cell ≡ true
     → rom_byte_at items cell ≡ slice_index (bytes_of (get_or items k d)) (cell - (get_or items k d).at)
 byte-is [] apart k d below cell h = absurd (omega arith)
 byte-is (x ∷ xs) apart zero d below cell h = cond-true _ _ _ h
@@ -26,19 +25,14 @@ apart_items_lie items apart fit k d below =
     let rom = map (rom_byte_at items) (range_with_len 0 rom_size) in
     let size : length rom ≡ rom_size = length-map-range_with_len (rom_byte_at items) 0 rom_size in
     let inside = (fit k d below).inside in
-    let rest : length (drop item.at rom) ≡ length rom - item.at = length-drop item.at rom in
+    let long : length (take (length bytes) (drop item.at rom)) ≡ length bytes =
+    length-take-le (length bytes) (drop item.at rom) (omega (arith, size, inside, length-drop item.at rom)) in
     record {
       valid = (fit k d below).valid;
       inside = omega (arith, size, inside);
-      bytes = ext_get_or 0 (take (length bytes) (drop item.at rom)) bytes
-          (length-take-le (length bytes) (drop item.at rom) (omega (arith, size, inside, rest)))
+      bytes = ext_get_or 0 (take (length bytes) (drop item.at rom)) bytes long
           (λ j lt.
-          let within : j < length bytes = omega (
-            arith,
-            lt,
-            length-take-le (length bytes) (drop item.at rom)
-                (omega (arith, size, inside, rest)),
-          ) in
+          let within : j < length bytes = omega (arith, lt, long) in
           let same : item.at + j - item.at ≡ j = omega arith in
           get_or-take (length bytes) (drop item.at rom) j 0 within
           ∙ get_or-drop item.at rom j 0

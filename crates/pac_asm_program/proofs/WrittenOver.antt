@@ -20,10 +20,8 @@ over-after : (item : Item) (n other : ℕ) → item.at + length (bytes_of item) 
 over-after item n other h = cond-false _ _ _ (and_right _ _ (le-ltb n (item.at + length (bytes_of item)) h))
 
 -- as many of an item's bytes as a list has room for, written over those that it had
-pub written-over : (item : Item) (old ys : List ℕ) (k size : ℕ)
-    → length old ≡ size → item.at + k ≤ size → length ys ≡ k
-    → ((j : ℕ) → j < k → get_or ys j 0 ≡ get_or (bytes_of item) j 0)
-    → k ≤ length (bytes_of item)
+pub written-over : (item : Item) (old ys : List ℕ) (k size : ℕ) → length old ≡ size → item.at + k ≤ size → length ys ≡ k
+    → ((j : ℕ) → j < k → get_or ys j 0 ≡ get_or (bytes_of item) j 0) → k ≤ length (bytes_of item)
     → ((n : ℕ) → n < size → item.at + k ≤ n → item.at + length (bytes_of item) ≤ n)
     → put_mid item.at k old ys ≡ map (λ n. byte_over item n (slice_index old n)) (range_with_len 0 size)
 written-over item old ys k size long fits whole same part all =
@@ -65,12 +63,8 @@ pub rom-of-one-more : (item : Item) (items : List Item)
     → map (λ n. byte_over item n (slice_index (rom_of items) n)) (range_with_len 0 rom_size) ≡ rom_of (item ∷ items)
 unfolding rom_of
 rom-of-one-more item items =
-    fill_by_all (rom_byte_at (item ∷ items))
-    (map (λ n. byte_over item n (slice_index (map (rom_byte_at items) (range_with_len 0 rom_size)) n))
-    (range_with_len 0 rom_size))
-    rom_size 0
-    (length-map-range_with_len (λ n. byte_over item n (slice_index (map (rom_byte_at items) (range_with_len 0 rom_size)) n)) 0 rom_size)
+    let over : ℕ → ℕ = λ n. byte_over item n (slice_index (map (rom_byte_at items) (range_with_len 0 rom_size)) n) in
+    fill_by_all (rom_byte_at (item ∷ items)) (map over (range_with_len 0 rom_size)) rom_size 0 (length-map-range_with_len over 0 rom_size)
     (λ n below.
-    get_or-map-range_with_len (λ m. byte_over item m (slice_index (map (rom_byte_at items) (range_with_len 0 rom_size)) m)) 0 rom_size n n 0
-    below (omega arith)
+    get_or-map-range_with_len over 0 rom_size n n 0 below (omega arith)
     ∙ ap (byte_over item n) (get_or-map-range_with_len (rom_byte_at items) 0 rom_size n n 0 below (omega arith)))

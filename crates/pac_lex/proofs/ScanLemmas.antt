@@ -10,10 +10,6 @@ scan-skip zero bytes = refl
 scan-skip (suc n) [] = refl
 scan-skip (suc n) (b ∷ bytes) = scan-skip n bytes
 
-pub scan-end : scan 0 [] ≡ Ok []
-unfolding scan
-scan-end = refl
-
 pub scan-blank : (b : ℕ) (bytes : List ℕ) → is_blank b ≡ true → scan 0 (b ∷ bytes) ≡ scan 0 bytes
 unfolding scan
 scan-blank b bytes e = rw e refl
@@ -21,18 +17,6 @@ scan-blank b bytes e = rw e refl
 pub scan-comment : (b : ℕ) (bytes : List ℕ) → is_blank b ≡ false → is_comment_start b ≡ true → scan 0 (b ∷ bytes) ≡ Ok []
 unfolding scan
 scan-comment b bytes e f = rw (e, f) refl
-
-pub scan-fault : (b : ℕ) (bytes : List ℕ) (fault : LexFault) → is_blank b ≡ false → is_comment_start b ≡ false →
-    token_at (b ∷ bytes) ≡ Err fault
-    → scan 0 (b ∷ bytes) ≡ Err fault
-unfolding scan
-scan-fault b bytes fault e f g = rw (e, f, g) refl
-
-scan-token : (b : ℕ) (bytes : List ℕ) (kind : TokenKind) (len : ℕ) → is_blank b ≡ false → is_comment_start b ≡ false
-    → token_at (b ∷ bytes) ≡ Ok (kind, len) → 0 < len
-    → scan 0 (b ∷ bytes) ≡ token_before (cut_token kind len (b ∷ bytes)) (scan 0 (drop len (b ∷ bytes)))
-unfolding scan
-scan-token b bytes kind len e f g h = grind (arith, scan-skip)
 
 scan-gap : (line : List ℕ) → scan 0 line ≡ scan 0 (after_gap line)
 scan-gap [] = refl
@@ -50,17 +34,18 @@ pub gap-skipped : (line rest : List ℕ) → rest ≡ after_gap line → AfterGa
 gap-skipped line rest e = rw e record { same = scan-gap line; no_blank = begins-after is_blank line }
 
 pub next-none : (line rest : List ℕ) → AfterGap line rest → is_end rest ≡ true → scan 0 line ≡ Ok []
-next-none line rest g e = grind (arith, scan-comment, scan-end)
+unfolding scan
+next-none line rest g e = grind (arith, scan-comment)
 
 pub next-fault : (line rest : List ℕ) (fault : LexFault) → AfterGap line rest → is_end rest ≡ false → token_at rest ≡ Err fault
     → scan 0 line ≡ Err fault
-next-fault line rest fault g e f = grind (arith, scan-fault)
+unfolding scan
+next-fault line rest fault g e f = grind arith
 
-pub next-some : (line rest : List ℕ) (kind : TokenKind) (len : ℕ) → AfterGap line rest → is_end rest ≡ false →
-    token_at rest ≡ Ok (kind, len)
-    → 0 < len
-    → scan 0 line ≡ token_before (cut_token kind len rest) (scan 0 (drop len rest))
-next-some line rest kind len g e f h = grind (arith, scan-token)
+pub next-some : (line rest : List ℕ) (kind : TokenKind) (len : ℕ) → AfterGap line rest → is_end rest ≡ false
+    → token_at rest ≡ Ok (kind, len) → 0 < len → scan 0 line ≡ token_before (cut_token kind len rest) (scan 0 (drop len rest))
+unfolding scan
+next-some line rest kind len g e f h = grind (arith, scan-skip)
 
 -- what was read before, and what is still read
 abbrev pub with_earlier : List Lexeme → Result (List Lexeme) LexFault → Result (List Lexeme) LexFault

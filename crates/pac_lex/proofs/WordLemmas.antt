@@ -1,13 +1,13 @@
 -- The first word of a line, and the words after it.
 use Rattle.pac_lex.proofs.Common.{List, [], after_gap, ap, arith, begins, cases_Bool, drop, false, filter, first-part, inl, inr, is_blank}
-use Rattle.pac_lex.proofs.Common.{length, one-add, part-more, part-stops, part_end, parts_after, prefix_len, refl, rules, subst, suc, sym}
+use Rattle.pac_lex.proofs.Common.{length, one-add, part-more, part-stops, part_end, parts_after, refl, rules, subst, sym}
 use Rattle.pac_lex.proofs.Common.{take, true, words_of_line, ℕ, ◌<◌, ◌∙◌, ◌∷◌, ◌≡◌}
 
--- a list's prefix of blanks, one byte further on
-gap-more : (b : ℕ) (line : List ℕ) → is_blank b ≡ true → prefix_len is_blank (b ∷ line) ≡ suc (prefix_len is_blank line)
+-- what follows the blanks of a line, by its first byte
+gap-more : (b : ℕ) (line : List ℕ) → is_blank b ≡ true → after_gap (b ∷ line) ≡ after_gap line
 gap-more b line e = rw (e, one-add) refl
 
-gap-stops : (b : ℕ) (line : List ℕ) → is_blank b ≡ false → prefix_len is_blank (b ∷ line) ≡ 0
+gap-stops : (b : ℕ) (line : List ℕ) → is_blank b ≡ false → after_gap (b ∷ line) ≡ b ∷ line
 gap-stops b line e = rw e refl
 
 blank-first : (b : ℕ) (bytes : List ℕ) → is_blank b ≡ true → words_of_line (b ∷ bytes) ≡ words_of_line bytes
@@ -40,42 +40,26 @@ word-here b bytes e =
     ∙ filled-first (take n (b ∷ bytes)) (parts_after is_blank (drop n (b ∷ bytes))) some
     ∙ ap (λ more. take n (b ∷ bytes) ∷ more) (after-word (b ∷ bytes))
 
-no-word-left : (line : List ℕ) → length (after_gap line) ≡ 0 → words_of_line line ≡ []
-no-word-left [] h = refl
-no-word-left (b ∷ line) h = elim (cases_Bool (is_blank b)) [
-  | inl e ↦ blank-first b line e ∙ no-word-left line (subst (λ n. length (drop n (b ∷ line)) ≡ 0) (gap-more b line e) h)
-  | inr e ↦ absurd (let k : length (b ∷ line) ≡ 0 = subst (λ n. length (drop n (b ∷ line)) ≡ 0) (gap-stops b line e) h in omega (arith, k))
-]
-
-word-left : (line : List ℕ) → 0 < length (after_gap line) → BeginsWord line (after_gap line)
-word-left [] h = absurd (omega (arith, h))
-word-left (b ∷ line) h = elim (cases_Bool (is_blank b)) [
-  | inl e ↦
-      let step = gap-more b line e in
-      subst (λ n. BeginsWord (b ∷ line) (drop n (b ∷ line))) (sym step)
-      (blank-first b line e ∙ word-left line (subst (λ n. 0 < length (drop n (b ∷ line))) step h))
-  | inr e ↦ subst (λ n. BeginsWord (b ∷ line) (drop n (b ∷ line))) (sym (gap-stops b line e)) (word-here b line e)
-]
-
 pub no-word : (line rest : List ℕ) → rest ≡ after_gap line → length rest ≡ 0 → words_of_line line ≡ []
-no-word line rest e h = no-word-left line (ap length (sym e) ∙ h)
+no-word [] rest e h = refl
+no-word (b ∷ line) rest e h = elim (cases_Bool (is_blank b)) [
+  | inl t ↦ blank-first b line t ∙ no-word line rest (e ∙ gap-more b line t) h
+  | inr t ↦ absurd (omega (arith, ap length (e ∙ gap-stops b line t)))
+]
 
 pub next-word-is : (line rest : List ℕ) → rest ≡ after_gap line → 0 < length rest → BeginsWord line rest
-next-word-is line rest e h = subst (λ xs. BeginsWord line xs) (sym e) (word-left line (subst (λ (xs : List ℕ). 0 < length xs) e h))
+next-word-is [] rest e h = absurd (omega (arith, ap length e))
+next-word-is (b ∷ line) rest e h = elim (cases_Bool (is_blank b)) [
+  | inl t ↦ blank-first b line t ∙ next-word-is line rest (e ∙ gap-more b line t) h
+  | inr t ↦ subst (λ xs. BeginsWord (b ∷ line) xs) (sym (e ∙ gap-stops b line t)) (word-here b line t)
+]
 
 -- a word has a byte at least, so less is left after it
 pub shorter-after : (line rest : List ℕ) → rest ≡ after_gap line → 0 < length rest → 0 < part_end is_blank rest
-shorter-after line rest e h =
-    subst (λ (xs : List ℕ). 0 < part_end is_blank xs) (sym e) (some line (subst (λ (xs : List ℕ). 0 < length xs) e h))
-  where
-    some : (xs : List ℕ) → 0 < length (after_gap xs) → 0 < part_end is_blank (after_gap xs)
-    some [] g = absurd (omega (arith, g))
-    some (b ∷ xs) g = elim (cases_Bool (is_blank b)) [
-      | inl e ↦
-          let step = gap-more b xs e in
-          subst (λ n. 0 < part_end is_blank (drop n (b ∷ xs))) (sym step) (some xs (subst (λ n. 0 < length (drop n (b ∷ xs))) step g))
-      | inr e ↦
-          subst (λ n. 0 < part_end is_blank (drop n (b ∷ xs))) (sym (gap-stops b xs e)) (rw (part-more is_blank b xs e) (omega arith))
-    ]
+shorter-after [] rest e h = absurd (omega (arith, ap length e))
+shorter-after (b ∷ line) rest e h = elim (cases_Bool (is_blank b)) [
+  | inl t ↦ shorter-after line rest (e ∙ gap-more b line t) h
+  | inr t ↦ rw (e ∙ gap-stops b line t, part-more is_blank b line t) (omega arith)
+]
 
 pub ruleset next_words = (no-word)

@@ -40,8 +40,7 @@ item-more number at bytes text address columns rest some here shown left = searc
 
 -- a symbol's row, and those after it
 pub symbols-more : (symbols : List Symbol) (place : ℕ) (name : List ℕ) (passed : ℤ) {number : ℤ}
-    → Some (name, number) ≡ slice_get symbols place
-    → passed ≡ number
+    → Some (name, number) ≡ slice_get symbols place → passed ≡ number
     → flat_map symbol_row (drop place symbols) ≡ symbol_row (name, passed) ++ flat_map symbol_row (drop (place + 1) symbols)
 symbols-more symbols place name passed {number} there equal =
     let found = get_or_from_slice_get symbols place (name, number) (name, number) (sym there) in

@@ -2,4 +2,3 @@ pub mod Common
 pub mod TableRules
 pub mod Uniqueness
 pub mod Lengths
-pub mod Pages

@@ -13,8 +13,6 @@ use Rattle.pac_table_names.proofs.Common.{to_ascii_uppercase, true, unwrap_or, v
 use Rattle.pac_table_names.proofs.Common.{◌||◌, ◌∙◌, ◌∷◌, ◌≡◌, ◌≤◌}
 use Rattle.pac_table.specs.declared.operands.Mnemonic.TheVariants as mnemonic
 
--- ---- what is found in a list
-
 -- ---- names by their first letter
 
 abbrev pub letter_at : ℕ → ℕ
@@ -110,10 +108,8 @@ same-value word text is some =
 same-rows : (word text : List ℕ) → is_written word text ≡ true → (n : ℕ) (rows : List Row) →
     rows_named_from word n rows ≡ rows_named_from text n rows
 same-rows word text is n [] = refl
-same-rows word text is n (row ∷ rows) =
-    ap (λ (b : Bool). if b then n ∷ rows_named_from word (n + 1) rows else rows_named_from word (n + 1) rows)
-    (ap is_some (same-value word text is row.operands.mnemonic)) ∙
-    ap (λ (xs : List ℕ). if is_some (value_named row.operands.mnemonic text) then n ∷ xs else xs) (same-rows word text is (n + 1) rows)
+same-rows word text is n (row ∷ rows) = λ i.
+    let more = same-rows word text is (n + 1) rows i in if is_some (same-value word text is row.operands.mnemonic i) then n ∷ more else more
 
 pub rows-same : (word text : List ℕ) → is_written word text ≡ true → rows_named word ≡ rows_named text
 unfolding rows_named
@@ -122,8 +118,7 @@ rows-same word text is = same-rows word text is 0 table
 pub family-same : (word text : List ℕ) → is_written word text ≡ true → family_value word ≡ family_value text
 unfolding family_value
 family-same word text is =
-    ap (λ (v : Option ℕ). unwrap_or (option_or v (value_named mnemonic.Shift word)) 0) (same-value word text is mnemonic.Alu) ∙
-    ap (λ (v : Option ℕ). unwrap_or (option_or (value_named mnemonic.Alu text) v) 0) (same-value word text is mnemonic.Shift)
+    λ i. unwrap_or (option_or (same-value word text is mnemonic.Alu i) (same-value word text is mnemonic.Shift i)) 0
 
 -- ---- a word that is no name has no rows
 
@@ -171,9 +166,8 @@ no-rows : (word : List ℕ) (n : ℕ) (rows : List Row) → find (is_text word) 
 no-rows word n [] none listed = refl
 no-rows word n (row ∷ rows) none listed =
     let parts = and_parts (row_is_listed row) (list_all row_is_listed rows) listed in
-    ap (λ (v : Option ℕ). if is_some v then n ∷ rows_named_from word (n + 1) rows else rows_named_from word (n + 1) rows)
-    (no-value word row.operands.mnemonic none parts.0) ∙
-    no-rows word (n + 1) rows none parts.1
+    λ i. if is_some (no-value word row.operands.mnemonic none parts.0 i) then n ∷ rows_named_from word (n + 1) rows
+    else no-rows word (n + 1) rows none parts.1 i
 
 pub rows-none : (word : List ℕ) → find (is_text word) word_list ≡ None → rows_named word ≡ []
 unfolding rows_named
@@ -183,8 +177,7 @@ pub family-none : (word : List ℕ) → find (is_text word) word_list ≡ None �
 unfolding family_value
 family-none word none =
     let parts = and_parts (list_all is_listed (names_of mnemonic.Alu)) (list_all is_listed (names_of mnemonic.Shift)) families-listed in
-    ap (λ (v : Option ℕ). unwrap_or (option_or v (value_named mnemonic.Shift word)) 0) (no-value word mnemonic.Alu none parts.0) ∙
-    ap (λ (v : Option ℕ). unwrap_or v 0) (no-value word mnemonic.Shift none parts.1)
+    λ i. unwrap_or (option_or (no-value word mnemonic.Alu none parts.0 i) (no-value word mnemonic.Shift none parts.1 i)) 0
 
 -- ---- what the index says of a name
 
@@ -251,22 +244,17 @@ no-letter b below is =
     let empty : List Word = [] in
     sym (cond-false (is_ascii_uppercase (to_ascii_uppercase b)) _ empty is) ∙ bucket-is b below
 
-pub at-letter : (b from to : ℕ) → b < 256 → is_ascii_uppercase (to_ascii_uppercase b) ≡ true →
-    from ≡ get_or letter_list (letter_at b) 0 → to ≡ get_or letter_list (letter_at b + 1) 0 →
-    slice_range word_list from to ≡ filter (begins_with b) word_list
-at-letter b from to below is from_is to_is =
-    rw (from_is, to_is) (
-    sym (cond-true (is_ascii_uppercase (to_ascii_uppercase b))
-    (slice_range word_list (get_or letter_list (letter_at b) 0) (get_or letter_list (letter_at b + 1) 0)) [] is) ∙
-    bucket-is b below)
+pub at-letter : (b letter k from to : ℕ) (places : List ℕ) → b < 256 → letter ≡ to_ascii_uppercase b → true ≡ is_ascii_uppercase letter
+    → k ≡ letter - 65 → places ≡ letter_list → from ≡ get_or places k 0 → to ≡ get_or places (k + 1) 0
+    → slice_range word_list from to ≡ filter (begins_with b) word_list
+at-letter b letter k from to places below upper is at are from_is to_is =
+    rw (from_is, to_is, are, at, upper) (
+    sym (cond-true (is_ascii_uppercase (to_ascii_uppercase b)) _ [] (ap is_ascii_uppercase (sym upper) ∙ sym is)) ∙ bucket-is b below)
 
-pub letter-bounds : (k from to : ℕ) → k < 26 → from ≡ get_or letter_list k 0 → to ≡ get_or letter_list (k + 1) 0 →
-    (from ≤ to) × (to ≤ length word_list)
-letter-bounds k from to below from_is to_is =
-    let parts = and_parts _ _ (in-order k below) in
-    let low = leb-true (get_or letter_list k 0) (get_or letter_list (k + 1) 0) parts.0 in
-    let high = leb-true (get_or letter_list (k + 1) 0) (length word_list) parts.1 in
-    (omega (arith, low, from_is, to_is), omega (arith, high, to_is))
+pub letter-bounds : (k from to : ℕ) (places : List ℕ) → k < 26 → places ≡ letter_list → from ≡ get_or places k 0
+    → to ≡ get_or places (k + 1) 0 → (from ≤ to) × (to ≤ length word_list)
+letter-bounds k from to places below are from_is to_is =
+    let parts = and_parts _ _ (in-order k below) in rw (from_is, to_is, are) (leb-true _ _ parts.0, leb-true _ _ parts.1)
 
 -- ---- the first letter of bytes
 

@@ -1,8 +1,7 @@
 use Rattle.pac_asm.proofs.Common.{AsmError, Assembled, AssemblyGives, IfOk, List, Ok, Result, Some, Symbol, [], arith, entries_in}
 use Rattle.pac_asm.proofs.Common.{first_spot, lines, number_of_symbol, phase2, rules, subst, sym, ◌≡◌}
-use Rattle.pac_asm.proofs.Assigned.{symbols-are-right}
-use Rattle.pac_asm.proofs.Entered.{has-entries}
-use Rattle.pac_asm.proofs.Sizes.{all-fit}
+use Rattle.pac_asm.proofs.Assigned.{symbols-are-right, has-entries}
+use Rattle.pac_asm.proofs.InTurn.{all-fit}
 use Rattle.pac_asm.proofs.assembly.assemble.Goals as goal
 
 given : (result : Result Assembled AsmError) (program : Assembled) (P : Assembled → Type 0) → AssemblyGives result (Ok program)

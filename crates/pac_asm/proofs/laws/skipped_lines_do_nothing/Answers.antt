@@ -1,4 +1,4 @@
-use Rattle.pac_asm.proofs.Skipping.{skipped-lines-do-nothing}
+use Rattle.pac_asm.proofs.LeftOut.{skipped-lines-do-nothing}
 
 pub returns : Rattle.pac_asm.proofs.laws.skipped_lines_do_nothing.Goals.returns
 returns c = skipped-lines-do-nothing

@@ -14,7 +14,7 @@ pub returns-in-Err-clause-exact : goal.returns-in-Err-clause-exact
 returns-in-Err-clause-exact c =
     subst (λ (error : AsmError). AssemblyFails error (spec.phase2 c.args.symbols.now 1 [] (lines c.args.source.now) c.args.places.now))
     (sym c.in_line.ensures)
-    (ends _ _ _ c.in-Some.below.now _ _ _ _ _ _ _ c.in-Some.ensures.some c.in-Some-first_place.ensures c.loop-line.invariant
+    (ends _ _ c.in-Some.below.now _ _ _ _ _ _ _ _ c.in-Some.ensures.some c.in-Some-first_place.ensures c.loop-line.invariant
     _ c.in-Err.ensures.exact)
 
 pub loop-line-preserved : goal.loop-line-preserved

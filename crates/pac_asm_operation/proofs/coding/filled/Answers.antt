@@ -1,5 +1,5 @@
 use Rattle.pac_asm_operation.proofs.Common.{arith, as_instruction}
-use Rattle.pac_asm_operation.proofs.FilledParts.{none-filled, one-filled, two-filled}
+use Rattle.pac_asm_operation.proofs.Held.{none-filled, one-filled, two-filled}
 use Rattle.pac_asm_operation.proofs.coding.filled.Goals as goal
 
 pub returns-in_err-parts : goal.returns-in_err-parts

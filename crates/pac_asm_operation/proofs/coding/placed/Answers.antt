@@ -1,5 +1,5 @@
 use Rattle.pac_asm_operation.proofs.Common.{operand_pair, parts_in_row, suits_row, sym, ◌∙◌}
-use Rattle.pac_asm_operation.proofs.RowSearch.{found-placed, more-placed}
+use Rattle.pac_asm_operation.proofs.Found.{found-placed, more-placed}
 use Rattle.pac_asm_operation.proofs.coding.placed.Goals as goal
 
 pub returns-in-Some : goal.returns-in-Some

@@ -1,9 +1,7 @@
-use Rattle.pac_asm_operation.proofs.Common.{Bool, Instruction, List, Row, Shape, all_take, ap, arith, as_instruction, eq-eqb, family_in}
-use Rattle.pac_asm_operation.proofs.Common.{fits_as, holds, if◌then◌else◌, operand_pair, parts_as, pos, row_at, row_size, rules, sym}
-use Rattle.pac_asm_operation.proofs.Common.{with_row_number, written_operands, ℕ, ◌==◌, ◌∙◌, ◌≡◌}
-use Rattle.std.proofs.Common.{Some, None}
-use Rattle.pac_asm_operation.proofs.FilledParts.{all_taken}
-use Rattle.pac_asm_operation.proofs.Held.{suited, unsuited}
+use Rattle.pac_asm_operation.proofs.Common.{Instruction, List, Row, Shape, all_take, ap, arith, as_instruction, eq-eqb, family_in}
+use Rattle.pac_asm_operation.proofs.Common.{fits_as, holds, operand_pair, parts_as, pos, row_at, row_size, rules, sym}
+use Rattle.pac_asm_operation.proofs.Common.{written_operands, ℕ, ◌==◌, ◌∙◌, ◌≡◌}
+use Rattle.pac_asm_operation.proofs.Held.{all_taken, suited, unsuited}
 use Rattle.pac_asm_operation.proofs.coding.placed_in.Goals as goal
 
 abbrev start : ℕ → Instruction
@@ -33,12 +31,8 @@ returns c =
     form-read _ c.row_numbered.result.now row c.family_in-value.result c.args.family c.written.ensures c.family_in-value.ensures same in
     let value_is = c.family_in-value.ensures ∙ ap (family_of c.args.family) same in
     let made = parts_as value c.args.next operands row in
-    let suits =
-    suited (row_size row == c.args.size) (fits_as value operands row) (all_take (written_operands row.operands value) c.args.next operands)
-    (holds row.pattern made) (as_instruction c.in_ok-parts.parts) made
-    (eq-eqb (row_size row) c.args.size (sym c.row_size.ensures ∙ c.if-row_size-size.false))
-    (sym c.fits.ensures ∙ c.if-not-fits.false)
-    (grind (arith, all_taken)) in
     c.made.ensures ∙
-    ap (λ (i : Instruction). if holds row.pattern i then Some (with_row_number c.args.row i) else None) suits.same ∙
-    sym (ap (λ (b : Bool). if b then Some (with_row_number c.args.row made) else None) suits.test)
+    suited (row_size row == c.args.size) (fits_as value operands row) (all_take (written_operands row.operands value) c.args.next operands)
+    (holds row.pattern) c.args.row (as_instruction c.in_ok-parts.parts) made
+    (eq-eqb (row_size row) c.args.size (sym c.row_size.ensures ∙ c.if-row_size-size.false))
+    (sym c.fits.ensures ∙ c.if-not-fits.false) (grind (arith, all_taken))

@@ -1,6 +1,5 @@
 use Rattle.std.proofs.Common.{◌∙◌, sym, arith}
-use Rattle.pac_asm_operation.proofs.FirstLetter.{no-letter, with-letter}
-use Rattle.pac_asm_operation.proofs.Longer.{no-directive}
+use Rattle.pac_asm_operation.proofs.FirstLetter.{no-letter, with-letter, no-directive}
 use Rattle.pac_asm_operation.proofs.directive.directive_of.Goals as goal
 
 pub returns-in_err-first : goal.returns-in_err-first

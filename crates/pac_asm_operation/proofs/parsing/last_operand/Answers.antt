@@ -1,7 +1,7 @@
 use Rattle.pac_asm_operation.proofs.Common.{Lexeme, List, Option, Token, ap, operand_of, operands_of_parts, parts_after, subst, sym, views}
 use Rattle.pac_asm_operation.proofs.Common.{◌∙◌, ◌∷◌}
 use denote.Ref.{Bor}
-use Rattle.pac_asm_operation.proofs.OperandLists.{AreMore, more-before, split-has-part}
+use Rattle.pac_asm_operation.proofs.Commas.{AreMore, more-before, split-has-part}
 
 pub returns-in-Some : Rattle.pac_asm_operation.proofs.parsing.last_operand.Goals.returns-in-Some
 returns-in-Some c =

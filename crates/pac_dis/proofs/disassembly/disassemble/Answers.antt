@@ -1,5 +1,5 @@
 use Rattle.std.proofs.Common.{arith}
-use Rattle.pac_dis.proofs.Showings.{shows-instruction, shown-within, shows-byte}
+use Rattle.pac_dis.proofs.Writings.{shows-instruction, shown-within, shows-byte}
 use Rattle.pac_dis.proofs.disassembly.disassemble.Goals as goal
 
 pub returns-in-Some-clause-meaning : goal.returns-in-Some-clause-meaning

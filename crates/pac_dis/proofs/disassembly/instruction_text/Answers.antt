@@ -1,5 +1,5 @@
 use Rattle.pac_dis.proofs.Common.{ap, arith, length, length-append}
-use Rattle.pac_dis.proofs.Lengths.{operation-named, operands-fit}
+use Rattle.pac_dis.proofs.Writings.{operation-named, operands-fit}
 use Rattle.pac_dis.proofs.disassembly.instruction_text.Goals as goal
 
 pub put_operands-requires-clause-room : goal.put_operands-requires-clause-room

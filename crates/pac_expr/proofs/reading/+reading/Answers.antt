@@ -1,6 +1,6 @@
 use Rattle.pac_expr.proofs.Common.{Subtract, ap, arith, arithmetic, kind_mark, token_marks, ◌∙◌, ◌∷◌, ◌≡◌}
 use Rattle.pac_expr.specs.declared.expr.Sign.TheVariants as signs
-use Rattle.pac_expr.proofs.Parts.{plus-comes, single-begins, sign-begins, group-begins, joined-begins, atom-found}
+use Rattle.pac_expr.proofs.Complete.{plus-comes, single-begins, sign-begins, group-begins, joined-begins, atom-found}
 use Rattle.pac_expr.proofs.reading.+reading.Goals as goal
 
 pub operand-returns-in-Plus-clause-value : goal.operand-returns-in-Plus-clause-value

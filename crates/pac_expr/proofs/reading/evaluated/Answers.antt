@@ -1,5 +1,5 @@
 use Rattle.pac_expr.proofs.Common.{arith, sym, token_marks, tree_in, ◌∙◌}
-use Rattle.pac_expr.proofs.Parts.{whole-value, more-none, refused-none, none-left, some-left}
+use Rattle.pac_expr.proofs.Complete.{whole-value, more-none, refused-none, none-left, some-left}
 use Rattle.pac_expr.proofs.reading.evaluated.Goals as goal
 
 pub returns-in_err-value : goal.returns-in_err-value

@@ -1,5 +1,5 @@
 use Rattle.pac_expr.proofs.Common.{sym, token_marks, tree_in, ◌∙◌}
-use Rattle.pac_expr.proofs.Shaped.{tree-shape}
+use Rattle.pac_expr.proofs.Complete.{tree-shape}
 
 pub returns : Rattle.pac_expr.proofs.shape.is_expression.Goals.returns
 unfolding tree_in

@@ -1,5 +1,5 @@
 use Rattle.std.proofs.Common.{◌∙◌, ap, length, arith}
-use Rattle.pac_lex.proofs.CharacterLemmas.{counts-on, ends-counted, characters-again}
+use Rattle.pac_lex.proofs.TextLaws.{counts-on, ends-counted, characters-again}
 use Rattle.pac_lex.proofs.quote.character_count.Goals as goal
 
 pub loop-rest-preserved : goal.loop-rest-preserved

@@ -1,5 +1,5 @@
 use Rattle.pac_lex.proofs.Common.{IfOk-weaker, ap, unquoted_characters, ◌∙◌, ◌≡◌}
-use Rattle.pac_lex.proofs.CharacterLemmas.{characters-again}
+use Rattle.pac_lex.proofs.TextLaws.{characters-again}
 
 pub returns-clause-each : Rattle.pac_lex.proofs.quote.characters.Goals.returns-clause-each
 returns-clause-each g c = λ characters e.

@@ -1,5 +1,5 @@
 use Rattle.std.proofs.Common.{arith}
-use Rattle.pac_lex.proofs.QuoteLemmas.{other-at, doubled-at}
+use Rattle.pac_lex.proofs.TextLaws.{other-at, doubled-at}
 use Rattle.pac_lex.proofs.quote.closing.Goals as goal
 
 pub loop-at-preserved-then-bytes-at-ne39 : goal.loop-at-preserved-then-bytes-at-ne39

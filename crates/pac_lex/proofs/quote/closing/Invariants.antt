@@ -1,5 +1,5 @@
 use Rattle.pac_lex.proofs.Common.{closing_length, drop, length, ◌-◌, ◌≡◌, ◌≤◌}
-use Rattle.pac_lex.proofs.QuoteLemmas.{more}
+use Rattle.pac_lex.proofs.TextLaws.{more}
 use Rattle.pac_lex.proofs.quote.closing.Given as goal
 
 abbrev pub invariant-loop-at : goal.invariant-loop-at

@@ -1,4 +1,4 @@
-use Rattle.pac_lex.proofs.CharacterLemmas.{goes-on-unquoted, ends-unquoted}
+use Rattle.pac_lex.proofs.TextLaws.{goes-on-unquoted, ends-unquoted}
 use Rattle.pac_lex.proofs.quote.unquoted.Goals as goal
 
 pub loop-rest-preserved : goal.loop-rest-preserved

@@ -1,6 +1,5 @@
 use Rattle.std.proofs.Common.{arith}
-use Rattle.pac_lex.proofs.LineLaws.{read-again, fault-found}
-use Rattle.pac_lex.proofs.AnswerLaws.{is-read, is-fault}
+use Rattle.pac_lex.proofs.LineLaws.{read-again, fault-found, is-read, is-fault}
 use Rattle.pac_lex.proofs.reading.tokens.Goals as goal
 
 pub returns-clause-read : goal.returns-clause-read

@@ -1,11 +1,10 @@
-use Rattle.pac_listing.proofs.Common.{arith, err_from_is_err_and, leaves-less, leaves-nothing, leaves-refused, lines}
+use Rattle.pac_listing.proofs.Common.{Leaves, arith, err_from_is_err_and, leaves-less, leaves-nothing, leaves-refused}
 use Rattle.pac_listing.proofs.RowLemmas.{lines-more, lines-none, texts-none}
 use Rattle.pac_listing.proofs.listing.put_lines.Goals as goal
 
 pub returns-in_default-first_line : goal.returns-in_default-first_line
 returns-in_default-first_line g c =
-    leaves-nothing (rw (c.in_default-first_line.ensures.none, texts-none c.loop-line.number c.loop-line.lines_left.now)
-    at c.loop-line.invariant.1)
+    grind (arith, Leaves, leaves-nothing, texts-none)
 
 pub returns-in_err-put_line : goal.returns-in_err-put_line
 returns-in_err-put_line g c =
@@ -21,6 +20,4 @@ loop-line-preserved g c =
     (omega (arith, c.loop-line.invariant.0, c.in-Some.ensures.cases.1), leaves-less _ _ left c.in_ok-put_line.ensures)
 
 pub returns : goal.returns
-returns g c =
-    leaves-nothing (rw (lines-none c.loop-line.number c.loop-line.lines_left.now (lines c.loop-line.rest.now) c.in_default.ensures.cases)
-    at c.loop-line.invariant.1)
+returns g c = grind (arith, Leaves, leaves-nothing, lines-none)

@@ -1,5 +1,5 @@
-use Rattle.pac_listing.proofs.Common.{Gathers, List, err_from_is_err_and, gathers-both, gathers-within, lines, lines_from, listing, subst}
-use Rattle.pac_listing.proofs.Common.{symbol_rows, ℕ, ◌++◌}
+use Rattle.pac_listing.proofs.Common.{err_from_is_err_and, gathers-both, gathers-within, lines, lines_from, listing}
+use Rattle.pac_listing.proofs.Common.{symbol_rows}
 use Rattle.pac_listing.proofs.listing.put_listing.Goals as goal
 
 pub returns-in_err-put_lines : goal.returns-in_err-put_lines
@@ -14,8 +14,6 @@ pub returns : goal.returns
 unfolding listing
 returns g c =
     let source = lines c.args.source.now in
-    subst (λ (text : List ℕ). Gathers g.W.Out.took g.W.Out.refused c.args.pending.now c.args.file.now text c.put_symbols.result
-    c.put_symbols.new.pending c.put_symbols.new.file)
-    (λ i. lines_from 1 (c.lines.ensures i) source ++ symbol_rows (c.symbols.ensures i))
+    rw (← c.lines.ensures, ← c.symbols.ensures)
     (gathers-both g.W.Out.refused c.args.pending.now (lines_from 1 c.lines.result.now source) (symbol_rows c.symbols.result.now)
     c.put_symbols.result c.put_symbols.new.pending c.put_symbols.new.file c.in_ok-put_lines.ensures c.put_symbols.ensures)

@@ -1,5 +1,5 @@
-use Rattle.pac_listing.proofs.Common.{arith, eqb-false, eqb-true, err_from_is_err_and, leaves-less, leaves-nothing, leaves-refused, length}
-use Rattle.pac_listing.proofs.Common.{sym}
+use Rattle.pac_listing.proofs.Common.{Leaves, arith, eqb-false, eqb-true, err_from_is_err_and, leaves-less, leaves-nothing, leaves-refused}
+use Rattle.pac_listing.proofs.Common.{length, sym}
 use Rattle.pac_listing.proofs.RowLemmas.{rows-more, rows-none}
 use Rattle.pac_listing.proofs.rows.put_further_rows.Goals as goal
 
@@ -17,6 +17,4 @@ loop-rest-preserved g c =
     rw c.after_row-rest.ensures.bytes (leaves-less _ _ left c.in_ok-put_further_row.ensures)
 
 pub returns : goal.returns
-returns g c =
-    leaves-nothing (rw (rows-none c.loop-rest.at c.loop-rest.rest.now
-    (eqb-true (length c.loop-rest.rest.now) 0 (sym c.loop-rest-test.ensures))) at c.loop-rest.invariant)
+returns g c = grind (arith, Leaves, eqb-true, leaves-nothing, rows-none)

@@ -22,9 +22,7 @@ returns-in-None-clause-family c = sym (family-none c.args.word.now (sym c.in-Non
 pub returns-in-Some-clause-rows : goal.returns-in-Some-clause-rows
 returns-in-Some-clause-rows c =
     let found = found-rows c.args.word.now c.in-Some.name.now (sym c.in-Some.ensures) in
-    c.part.ensures ∙ ap (λ (xs : List ℕ). slice_range xs c.from.result c.from-in-Some.result) c.row_list.ensures ∙
-    ap (λ n. slice_range row_list n c.from-in-Some.result) c.from.ensures ∙
-    ap (slice_range row_list c.in-Some.name.now.from) c.from-in-Some.ensures ∙ sym found.rows
+    rw (c.part.ensures, c.row_list.ensures, c.from.ensures, c.from-in-Some.ensures) (sym found.rows)
 
 pub returns-in-Some-clause-family : goal.returns-in-Some-clause-family
 returns-in-Some-clause-family c = sym (found-rows c.args.word.now c.in-Some.name.now (sym c.in-Some.ensures)).family
@@ -32,20 +30,9 @@ returns-in-Some-clause-family c = sym (found-rows c.args.word.now c.in-Some.name
 pub returns-in-Some-clause-bound : goal.returns-in-Some-clause-bound
 returns-in-Some-clause-bound c =
     let found = found-rows c.args.word.now c.in-Some.name.now (sym c.in-Some.ensures) in
-    let are =
-    c.part.ensures ∙ ap (λ (xs : List ℕ). slice_range xs c.from.result c.from-in-Some.result) c.row_list.ensures ∙
-    ap (λ n. slice_range row_list n c.from-in-Some.result) c.from.ensures ∙
-    ap (slice_range row_list c.in-Some.name.now.from) c.from-in-Some.ensures in
-    λ k d below.
-    subst (λ (xs : List ℕ). get_or xs k d < row_count) (sym are)
-    (all-below row_count (slice_range row_list c.in-Some.name.now.from c.in-Some.name.now.to) found.bound k d
-    (subst (λ (xs : List ℕ). k < length xs) are below))
+    rw (c.part.ensures, c.row_list.ensures, c.from.ensures, c.from-in-Some.ensures) (all-below row_count _ found.bound)
 
 pub returns-in-Some-clause-named : goal.returns-in-Some-clause-named
 returns-in-Some-clause-named c =
     let found = found-rows c.args.word.now c.in-Some.name.now (sym c.in-Some.ensures) in
-    let are =
-    c.part.ensures ∙ ap (λ (xs : List ℕ). slice_range xs c.from.result c.from-in-Some.result) c.row_list.ensures ∙
-    ap (λ n. slice_range row_list n c.from-in-Some.result) c.from.ensures ∙
-    ap (slice_range row_list c.in-Some.name.now.from) c.from-in-Some.ensures in
-    subst (λ (xs : List ℕ). AreNamed c.args.word.now c.in-Some.name.now.family xs) (sym are) found.named
+    rw (c.part.ensures, c.row_list.ensures, c.from.ensures, c.from-in-Some.ensures) found.named

@@ -19,26 +19,16 @@ bounds-places-letter-2 c =
 pub part-requires-clause-order : goal.part-requires-clause-order
 part-requires-clause-order c = λ _.
     let below : c.from-letter.result < 26 = omega (arith, c.if-not-is_ascii_uppercase.ensures.cases, c.from-letter.ensures) in
-    (letter-bounds c.from-letter.result c.from-from.result c.from-to.result below
-    (c.from-from.ensures ∙ ap (λ (xs : List ℕ). get_or xs c.from-letter.result 0) c.letter_list-places.ensures)
-    (c.from-to.ensures ∙ ap (λ (xs : List ℕ). get_or xs (c.from-letter.result + 1) 0) c.letter_list-places.ensures)).0
+    (letter-bounds _ _ _ _ below c.letter_list-places.ensures c.from-from.ensures c.from-to.ensures).0
 
 pub part-requires-clause-within : goal.part-requires-clause-within
 part-requires-clause-within c = λ _.
     let below : c.from-letter.result < 26 = omega (arith, c.if-not-is_ascii_uppercase.ensures.cases, c.from-letter.ensures) in
-    let bounds =
-    letter-bounds c.from-letter.result c.from-from.result c.from-to.result below
-    (c.from-from.ensures ∙ ap (λ (xs : List ℕ). get_or xs c.from-letter.result 0) c.letter_list-places.ensures)
-    (c.from-to.ensures ∙ ap (λ (xs : List ℕ). get_or xs (c.from-letter.result + 1) 0) c.letter_list-places.ensures) in
+    let bounds = letter-bounds _ _ _ _ below c.letter_list-places.ensures c.from-from.ensures c.from-to.ensures in
     omega (arith, bounds.1, ap length c.words.ensures)
 
 pub returns : goal.returns
 returns c =
-    let at = c.from-letter.ensures ∙ ap (λ n. n - 65) c.to_ascii_uppercase-letter.ensures.value in
     c.part.ensures ∙ ap (λ (xs : List Word). slice_range xs c.from-from.result c.from-to.result) c.words.ensures ∙
-    at-letter c.args.first c.from-from.result c.from-to.result c.ranges.first.fits
-    (ap is_ascii_uppercase (sym c.to_ascii_uppercase-letter.ensures.value) ∙ sym c.if-not-is_ascii_uppercase.ensures.value)
-    (c.from-from.ensures ∙ ap (λ (xs : List ℕ). get_or xs c.from-letter.result 0) c.letter_list-places.ensures ∙
-    ap (λ k. get_or letter_list k 0) at)
-    (c.from-to.ensures ∙ ap (λ (xs : List ℕ). get_or xs (c.from-letter.result + 1) 0) c.letter_list-places.ensures ∙
-    ap (λ k. get_or letter_list (k + 1) 0) at)
+    at-letter c.args.first _ _ _ _ _ c.ranges.first.fits c.to_ascii_uppercase-letter.ensures.value
+    c.if-not-is_ascii_uppercase.ensures.value c.from-letter.ensures c.letter_list-places.ensures c.from-from.ensures c.from-to.ensures

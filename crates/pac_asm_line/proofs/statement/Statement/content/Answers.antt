@@ -1,5 +1,5 @@
 use Rattle.pac_asm_line.proofs.Common.{parts_of_operands, sym, trees_of, ◌∙◌}
-use Rattle.pac_asm_line.proofs.Sizes.{parts-length, sized-as, words-length}
+use Rattle.pac_asm_line.proofs.Parts.{parts-length, sized-as, words-length}
 use Rattle.pac_asm_line.proofs.statement.Statement.content.Goals as goal
 
 pub returns-in-Bytes-clause-sized : goal.returns-in-Bytes-clause-sized

@@ -1,1 +1,0 @@
--- How many lines a source has.
