@@ -1,7 +1,7 @@
 -- Blocks whose fronts are written over.
-use Rattle.pac_block.proofs.Common.{BoardState, BoardValue, HasBecome, HasFront, IsBlock, IsBlockOf, IsState, List, ap, block-again}
-use Rattle.pac_block.proofs.Common.{block_text, board_in, drop, file_size, front-changed, is-block, length, state_in, subst, sym, ℕ, ◌++◌}
-use Rattle.pac_block.proofs.Common.{◌∙◌, ◌≡◌}
+use Rattle.pac_block.proofs.Common.{BoardState, BoardValue, HasBecome, HasFront, IsBlock, IsBlockOf, IsFrontOf, IsState, List, ap}
+use Rattle.pac_block.proofs.Common.{block-again, block_text, board_in, drop, file_size, front-changed, is-block, length, set_of_roms}
+use Rattle.pac_block.proofs.Common.{state_in, subst, sym, ℕ, ◌++◌, ◌∙◌, ◌≡◌}
 
 -- the text of a state is its block
 pub block-of : (state : BoardState) (new : List ℕ) → IsState state → new ≡ block_text state → IsBlockOf state new
@@ -21,3 +21,9 @@ becomes-front becomes old front new size has written = record {
       block-of state new (has.front_is roms).is_state
       (written ∙ front-changed old front state size has.is_block (has.front_is roms) (has.lines roms));
 }
+
+-- a front of what becomes of a board in the state of a block
+pub front-of : (becomes : BoardValue → BoardValue) (roms block front : List ℕ) {state : BoardState} → state ≡ state_in block
+    → IsFrontOf (becomes (record { set = set_of_roms roms; state = state; made = 0 })).state front
+    → IsFrontOf (becomes (board_in roms block)).state front
+front-of becomes roms block front same is = rw same at is

@@ -2,53 +2,49 @@
 
 pub use Rattle.pac_board.proofs.Common.{BoardState, BoardValue, BoardView, Bool, Cut, Ends, Entry, Err, Executes, Fields, Goes, Hold}
 pub use Rattle.pac_board.proofs.Common.{HoldWhatTheyCan, Image, IsPicture, IsTimely, IsWhole, Latched, List, Moment, Next, None, Ok, Option}
-pub use Rattle.pac_board.proofs.Common.{Output, Parts, Regs, Result, Show, Some, Sound, StepProgress, TimeCanBeCut, TookAll, View, Walk, []}
-pub use Rattle.pac_board.proofs.Common.{ap, append_assoc, arith, at_moment, blank_event, board_after, board_after_reset, board_after_run}
-pub use Rattle.pac_board.proofs.Common.{by, by_view, colour_prom_size, common_steps, course, course_at, drop, drop-append_seam, due_outputs}
-pub use Rattle.pac_board.proofs.Common.{due_with, ended-whole, err_from_is_err_and, false, frame_steps, frame_ticks, get_or, goes-on}
-pub use Rattle.pac_board.proofs.Common.{going-steps, has_ended, held_with, held_without, image_of, inl, inr, length, line_event}
-pub use Rattle.pac_board.proofs.Common.{lookup_prom_size, map, map-append, mask, most_asked, nat_le, nat_tests, next_frame, nothing_due}
-pub use Rattle.pac_board.proofs.Common.{onward_if, open-goes-on, outputs_given, picture_count, power_on_accumulators, power_on_board}
-pub use Rattle.pac_board.proofs.Common.{power_on_board_view, power_on_moment, power_on_view, program_size, read_of, refl, replicate}
-pub use Rattle.pac_board.proofs.Common.{restored_board, rules, run_ticks, sample_event, slice_index_or, sound_count, sprites_size, state_of}
-pub use Rattle.pac_board.proofs.Common.{step, step-timely, steps_counted, subst, suc, sym, take, take-append_seam, tiles_size, time_of}
-pub use Rattle.pac_board.proofs.Common.{trace, true, video_memory, video_roms, view_after, view_of_fields, walk, walk_after_step}
-pub use Rattle.pac_board.proofs.Common.{walk_at_start, walk_to, wave_prom_size, with_frame, zero, ℕ, ℤ, ◌++◌, ◌+◌, ◌-◌, ◌<◌, ◌^◌, ◌∙◌, ◌∷◌}
-pub use Rattle.pac_board.proofs.Common.{◌≡◌, ◌≤◌, ◌⊎◌}
+pub use Rattle.pac_board.proofs.Common.{Output, Parts, Result, Show, Some, Sound, StepProgress, TimeCanBeCut, TookAll, View, Walk, [], ap}
+pub use Rattle.pac_board.proofs.Common.{append_assoc, arith, at_moment, blank_event, board_after, board_after_reset, board_after_run, by}
+pub use Rattle.pac_board.proofs.Common.{by_view, common_steps, course, course_at, drop, drop-append_seam, due_outputs, due_with}
+pub use Rattle.pac_board.proofs.Common.{ended-whole, err_from_is_err_and, false, frame_steps, frame_ticks, get_or, goes-on, going-steps}
+pub use Rattle.pac_board.proofs.Common.{has_ended, held_with, held_without, image_of, inl, inr, length, line_event, map, map-append, mask}
+pub use Rattle.pac_board.proofs.Common.{most_asked, nat_le, nat_tests, next_frame, nothing_due, onward_if, open-goes-on, outputs_given}
+pub use Rattle.pac_board.proofs.Common.{picture_count, power_on_accumulators, power_on_board, power_on_board_view, power_on_moment, read_of}
+pub use Rattle.pac_board.proofs.Common.{refl, replicate, restored_board, rules, run_ticks, sample_event, slice_index_or, sound_count}
+pub use Rattle.pac_board.proofs.Common.{state_of, step, step-timely, steps_counted, subst, suc, sym, take, take-append_seam, time_of, trace}
+pub use Rattle.pac_board.proofs.Common.{true, video_memory, view_of_fields, walk, walk_after_step, walk_at_start, walk_to, with_frame, zero}
+pub use Rattle.pac_board.proofs.Common.{ℕ, ℤ, ◌++◌, ◌+◌, ◌-◌, ◌<◌, ◌^◌, ◌∙◌, ◌∷◌, ◌≡◌, ◌≤◌, ◌⊎◌}
 unfoldable pub use Rattle.pac_board.proofs.Common.{palette_of}
-pub use Rattle.pac_board_model.proofs.Common.{IsWalkTimed, Reset, black-picture, ext_get_or, sample_ticks}
+pub use Rattle.pac_board_model.proofs.Common.{IsWalkTimed, black-picture, ext_get_or, sample_ticks}
 pub use Rattle.pac_lemmas.proofs.Common.{range_with_len, to_z-of_z}
 pub use Rattle.pac_picture.proofs.Common.{Each1-from_get_or, SwzOk, SwzOk-from_below, VideoMemory, VideoRoms, cases_lt, get_or-append_right}
 pub use Rattle.pac_picture.proofs.Common.{get_or-chunk, get_or-map, get_or-swz_l_below, get_or-tabulate, get_or_append_left, get_or_default}
 pub use Rattle.pac_picture.proofs.Common.{length-map, length-set, length-tabulate, pos, rgb_of, slice_index, swz_l, w8}
 unfoldable pub use Rattle.pac_picture.proofs.Common.{picture_line}
-pub use Rattle.pac_state.proofs.Common.{FindsFields, IsBlock, IsFile, IsFrontOf, IsState, IsStateInRange, Saves, board_of_file, body}
-pub use Rattle.pac_state.proofs.Common.{bytes_at_place, digest_of, drop-drop, file_front, file_size, flat_map, flat_map-append}
-pub use Rattle.pac_state.proofs.Common.{flat_map-one-more, from_le_bytes-to_le_bytes_4, get_or-drop, if◌then◌else◌, joined_pieces}
-pub use Rattle.pac_state.proofs.Common.{length-append, length-drop, length-take-le, lines_of, loaded_board, min, no_digest, picture_in}
-pub use Rattle.pac_state.proofs.Common.{sealed_file, state_in, tabulate-is, tabulate-same, take-add, take-append-drop, upgraded_board}
-pub use Rattle.pac_state.proofs.Common.{version_in, w16, w32, w64, written_version, ◌*◌, ◌/◌, ◌==◌, ◌≢◌}
+pub use Rattle.pac_state.proofs.Common.{FindsFields, IsBlock, IsFile, IsFrontOf, IsState, Saves, board_of_file, body, bytes_at_place}
+pub use Rattle.pac_state.proofs.Common.{digest_of, drop-drop, file_front, file_size, flat_map, flat_map-append, flat_map-one-more}
+pub use Rattle.pac_state.proofs.Common.{from_le_bytes-to_le_bytes_4, get_or-drop, if◌then◌else◌, joined_pieces, length-append, length-drop}
+pub use Rattle.pac_state.proofs.Common.{length-take-le, loaded_board, min, no_digest, sealed_file, state_in, tabulate-is, tabulate-same}
+pub use Rattle.pac_state.proofs.Common.{take-add, take-append-drop, upgraded_board, version_in, written_version, ◌*◌, ◌/◌, ◌==◌, ◌≢◌}
 unfoldable pub use Rattle.pac_state.proofs.Common.{block_text, devices, head, ram, sha1, tabulate}
 pub use Rattle.pac_block.specs.Codes.{Answers, code_of, ran_of}
 unfoldable pub use Rattle.pac_block.specs.Codes.{ran_bytes}
 pub use Rattle.pac_block.specs.Films.{AllFramesAreDone, FollowedBy, FrameCalls, HasRoom, HostsPlayTheFilm, IsBetweenFrames, IsFrameAnswered}
 pub use Rattle.pac_block.specs.Films.{IsHostFrame, Player, PlaysFrames, all_inputs, heard, pictures_given, ran_read, rgba_of_image, seen}
-pub use Rattle.pac_block.specs.Films.{seen_if}
 pub use Rattle.pac_block.specs.Handed.{HasFront, MayRun, StopsEarly}
 pub use Rattle.pac_block.specs.Host.{Becomes, Draws, ExecFails, Execs, HasBecome, HasExecuted, HasLoaded, IsBlockOf, LoadFails, TellsRun}
 pub use Rattle.pac_block.specs.Host.{asked_in, asked_left, board_after_exec, board_holding, board_in, least_asked, most_samples}
 pub use Rattle.pac_block.specs.Host.{opaque_pixel, rgba_size, roms_size, room_of, samples_due, samples_given, state_left}
 unfoldable pub use Rattle.pac_block.specs.Host.{bytes_read, rgba_of, set_of_roms}
 pub use Rattle.pac_block.specs.HostLaws.{AreCallsOfBoard, AreDone, BlocksAreOneBoard, HoldInputs, HostCall, HostTimeCanBeCut, IsCallDone}
-pub use Rattle.pac_block.specs.HostLaws.{IsCallOfBoard, IsNotBehind, IsStoppedStill, KeepsUp, LetTimePass, OneStepAtMost, PowerOn, ResetNow}
-pub use Rattle.pac_block.specs.HostLaws.{RoomIsBounded, StopsAreMetAgain, TakeFile, stop_told}
+pub use Rattle.pac_block.specs.HostLaws.{IsCallOfBoard, IsNotBehind, KeepsUp, LetTimePass, OneStepAtMost, PowerOn, ResetNow, RoomIsBounded}
+pub use Rattle.pac_block.specs.HostLaws.{StopsAreMetAgain, TakeFile, stop_told}
 pub use Rattle.pac_block.specs.Passed.{composed_lines, picture_offset, recomposed_state, state_with_lines, upgraded_state}
 pub use Rattle.pac_block.specs.RoomLaws.{AreDoneOver, NoneTakesAFile, RoomIsEnough, TakesNoFile}
 pub use Rattle.pac_block.specs.Sounding.{IsSameBuffer, sounding_refused, sounding_room, sounding_took}
 pub use Rattle.pac_block.specs.Woven.{woven}
 unfoldable pub use Rattle.pac_block.specs.Woven.{coloured}
 pub use Rattle.pac_block.specs.declared.codes.HostFault.{HostFault}
-pub use Rattle.pac_block.specs.declared.codes.HostFault.TheVariants.{Closed, NoBoard, NoFile, NoRoom, TooLong, WrongLength}
+pub use Rattle.pac_block.specs.declared.codes.HostFault.TheVariants.{NoBoard, NoFile, NoRoom, TooLong, WrongLength}
 pub use Rattle.pac_block.specs.declared.ran.PacRan.{PacRan}
 pub use Rattle.pac_block.specs.declared.sounds.Sounds.{Sounds}
 pub use Rattle.pac_board.proofs.Sinks.{took-more}
@@ -78,5 +74,4 @@ pub use Rattle.std.proofs.Common.{reverse, take_all}
 pub use Rattle.std.proofs.Math.Seq.{drop-cons}
 pub use Rattle.std.proofs.lemmas.List.{drop-set-lt, take_more_set}
 pub use Rattle.std.proofs.lemmas.Simd.{length-swz_l, pick_l_whole}
-pub use Rattle.std.specs.Int.{to_le_bytes}
-pub use Rattle.std.specs.Int.Bits.{and_zero_r, bit_or, or_zero_l}
+pub use Rattle.std.specs.Int.Bits.{and_zero_r, or_zero_l}

@@ -1,19 +1,104 @@
 -- A host that plays a script frame by frame hears and sees the script's trace.
 use Rattle.pac_block.proofs.Common.{Answers, BoardState, BoardView, FollowedBy, HasBecome, Hold, HostFault, HostsPlayTheFilm, Image}
-use Rattle.pac_block.proofs.Common.{IsHostFrame, IsWhole, List, None, Ok, Option, PacRan, Parts, Player, PlaysFrames, Result, Some, Stop}
-use Rattle.pac_block.proofs.Common.{TellsRun, Walk, [], and_zero_r, ap, append_assoc, arith, asked_left, bit_or, board_after}
-use Rattle.pac_block.proofs.Common.{board_after_exec, board_holding, by_view, bytes_at_place, code_of, colour_prom_size, drop, frame_steps}
-use Rattle.pac_block.proofs.Common.{frame_ticks, heard, held_with, held_without, image_of, length, length-drop, length-take-le}
-use Rattle.pac_block.proofs.Common.{lookup_prom_size, map, map-append, nothing_due, or_zero_l, picture_count, pictures_given, program_size}
-use Rattle.pac_block.proofs.Common.{ran_read, refl, rgba_of_image, roms_size, rules, runs-agree, samples_given, seen, seen_if, set_of_roms}
-use Rattle.pac_block.proofs.Common.{sprites_size, state_in, step, stopped-is-early, subst, suc, sym, tiles_size, wave_prom_size, zero, ℕ, ℤ}
-use Rattle.pac_block.proofs.Common.{◌*◌, ◌++◌, ◌+◌, ◌∙◌, ◌∷◌, ◌≡◌, ◌≤◌}
-use Rattle.pac_block.proofs.FrameWalks.{pictures-joined, as-many-pictures}
+use Rattle.pac_block.proofs.Common.{IsHostFrame, IsWhole, List, Moment, None, Ok, Option, PacRan, Parts, Player, PlaysFrames, Result, Some}
+use Rattle.pac_block.proofs.Common.{Stop, TellsRun, Walk, [], and_zero_r, ap, append_assoc, arith, asked_left, board_after}
+use Rattle.pac_block.proofs.Common.{board_after_exec, board_holding, by_view, bytes_at_place, code_of, course, frame_steps, frame_ticks}
+use Rattle.pac_block.proofs.Common.{heard, held_with, held_without, image_of, length, length-drop, length-take-le, map, map-append}
+use Rattle.pac_block.proofs.Common.{next_frame, nothing_due, open-is-late, or_zero_l, picture_count, pictures_given, play-timely}
+use Rattle.pac_block.proofs.Common.{power_on_board_view, power_on_moment, ran_read, refl, rgba_of_image, roms_size, rules, runs-agree}
+use Rattle.pac_block.proofs.Common.{runs-end, runs-go-by-frames, samples_given, seen, set_of_roms, state_in, step, step-timely}
+use Rattle.pac_block.proofs.Common.{stopped-is-early, subst, suc, sym, trace, walk-near, walk-to-ends, walk_to, with_frame, zero, ℕ, ℤ, ◌*◌}
+use Rattle.pac_block.proofs.Common.{◌++◌, ◌+◌, ◌<◌, ◌∙◌, ◌≡◌, ◌≤◌}
+use Rattle.pac_block.proofs.FrameWalks.{pictures-joined, as-many-pictures, ShowsFrame, walk-shows}
 use Rattle.pac_block.proofs.Sounding.{samples-append}
-use Rattle.pac_block.proofs.Told.{ran-is-read}
-use Rattle.pac_block.proofs.TimeParts.{Tells, tells, kept, told_stop}
-use Rattle.pac_block.proofs.FilmRuns.{IsBetween, after_frame, course-is, first-between, next-between, played, played-late, played-near}
-use Rattle.pac_block.proofs.FilmRuns.{ready, run, run-goes, run-outputs, run-stays, shows, with_held}
+use Rattle.pac_block.proofs.TimeParts.{ran-is-read, Tells, tells, kept, told_stop}
+
+-- ---- the run, frame by frame
+
+module _ (set : Parts) (switches : ℕ) (held : ℕ → ℕ) where
+  abbrev run : ℕ → Walk BoardView
+  run frames = trace (by_view set) (record { frames = frames; held = held }) (power_on_board_view switches)
+
+  -- a frame's walk
+  abbrev played : ℕ → Walk BoardView
+  played frames = walk_to (step (by_view set)) (frame_ticks * suc frames) (run frames).now
+
+  run-on : (frames : ℕ) → run (suc frames) ≡ next_frame (by_view set) held (suc frames) (run frames) (run frames).stop
+  run-on frames =
+      let by_frames = runs-go-by-frames (by_view set) held (power_on_board_view switches) in
+      rw (← by_frames (suc frames), ← by_frames frames)
+
+  -- after a frame that met this stop, or none
+  run-goes : (frames : ℕ) (stop : Option Stop) → (run frames).stop ≡ None → (played frames).stop ≡ stop
+      → run (suc frames) ≡ with_frame (by_view set) held (run frames) (played frames) stop
+  run-goes frames stop open_yet goes = run-on frames ∙ rw (open_yet, goes) refl
+
+  run-outputs : (frames : ℕ) (stop : Option Stop) → (run frames).stop ≡ None → (played frames).stop ≡ stop
+      → (run (suc frames)).outputs ≡ (run frames).outputs ++ (played frames).outputs
+  run-outputs frames stop open_yet goes = rw (run-goes frames stop open_yet goes) (search rules)
+
+  -- a stop is for good
+  run-stays : (frames more : ℕ) (stop : Stop) → (run frames).stop ≡ Some stop → run (frames + more) ≡ run frames
+  run-stays frames zero stop ends = let same : frames + 0 ≡ frames = omega arith in ap run same
+  run-stays frames (suc more) stop ends =
+      let before = run-stays frames more stop ends in
+      let on = run-on (frames + more) in
+      grind (arith, on, before, ends)
+
+  -- where a frame begins, and where it ends
+  run-late : (frames : ℕ) → (run frames).stop ≡ None → frame_ticks * frames ≤ (run frames).now.time
+  run-late frames open_yet =
+      open-is-late (frame_ticks * frames) (run frames)
+      (runs-end (by_view set) (record { frames = frames; held = held }) (power_on_board_view switches) 0).0 open_yet
+
+  run-near : (frames : ℕ) → (run frames).now.time < frame_ticks * frames + 23
+  run-near frames = walk-near _ _ (play-timely (by_view set) held) _ (frame_steps * frames) (omega arith)
+
+  played-late : (frames : ℕ) → (played frames).stop ≡ None → frame_ticks * suc frames ≤ (played frames).now.time
+  played-late frames goes =
+      open-is-late (frame_ticks * suc frames) (played frames)
+      (walk-to-ends (step (by_view set)) (frame_ticks * suc frames) (step-timely (by_view set)) (run frames).now) goes
+
+  played-near : (frames : ℕ) → (played frames).now.time < frame_ticks * suc frames + 23
+  played-near frames =
+      walk-near (step (by_view set)) (frame_ticks * suc frames) (step-timely (by_view set)) (run frames).now (frame_ticks * suc frames)
+      (omega (arith, run-near frames))
+
+  -- the pictures of a frame
+  shows : (frames : ℕ) → (run frames).stop ≡ None
+      → ShowsFrame set frames (played frames).now.time (played frames).outputs (played frames).now.board
+  shows frames open_yet =
+      walk-shows set frames (run frames).now (frame_ticks * suc frames) (run-late frames open_yet) (omega (arith, run-near frames))
+
+  -- ---- a board between two frames
+
+  abbrev with_held : ℕ → Moment BoardView → Moment BoardView
+  with_held frame now = record now { board = board_after set now.board (Hold (held frame)) }
+
+  -- once the next frame's inputs are held, it stands where the run does
+  record IsBetween (frames : ℕ) (state : BoardState) : Type 0 where
+    open_yet : (run frames).stop ≡ None
+    now : with_held (suc frames) state.now ≡ (run frames).now
+    asked : state.asked ≡ 16500 * frames
+    due : state.due ≡ nothing_due
+
+  -- the state with them held, and after the frame
+  abbrev ready : ℕ → BoardState
+  ready frames = record { now = (run frames).now; asked = 16500 * frames; due = nothing_due }
+
+  abbrev after_frame : ℕ → BoardState
+  after_frame frames = record { now = (played frames).now; asked = 16500 * frames + 16500; due = nothing_due }
+
+  next-between : (frames : ℕ) → (run frames).stop ≡ None → (played frames).stop ≡ None → IsBetween (suc frames) (after_frame frames)
+  next-between frames open_yet goes = grind (arith, played-late, played-near, run-goes frames None open_yet goes)
+
+  -- the first frame's state
+  first-between : IsBetween 0 (record { now = power_on_moment (power_on_board_view switches); asked = 0; due = nothing_due })
+  first-between = record { open_yet = refl; now = refl; asked = refl; due = refl }
+
+  -- a call for a frame is the frame's walk
+  course-is : (frames : ℕ) → course (record { set = set; state = ready frames; made = 0 }) 16500 ≡ played frames
+  course-is frames = search rules
 
 -- ---- a call that answers 0 was done
 
@@ -26,27 +111,18 @@ was-done comes_to answers = done-of comes_to answers.answer answers.code_is answ
 
 -- ---- one frame of a host
 
--- what the calls of a frame leave, of a board whose inputs are held
-record IsCalled (roms : List ℕ) (new : Player) (ran : PacRan) (state : BoardState) : Type 0 where
-  told : Tells roms 16500 new.block new.samples ran state
-  state_is : state_in new.block ≡ (board_after_exec (kept roms state) 16500).state
-
 module _ (roms : List ℕ) (switches : ℕ) (held : ℕ → ℕ) where
   abbrev set : Parts
   set = set_of_roms roms
 
   -- the inputs of a frame alone are held
   mask-is : (before inputs : ℕ) → held_with (held_without before 0xFFFF) inputs ≡ inputs
-  mask-is before inputs = ap (λ none. bit_or none inputs) (and_zero_r before) ∙ or_zero_l inputs
+  mask-is before inputs = rw (and_zero_r before) (or_zero_l inputs)
 
   -- a board after the inputs of a frame are held
   held-state : (frame : ℕ) (block between : List ℕ) → HasBecome (board_holding (held frame) 0xFFFF) block between
       → state_in between ≡ record (state_in block) { now = with_held set switches held frame (state_in block).now }
-  held-state frame block between done =
-      let old = state_in block in
-      (done.board roms).state_is
-      ∙ ap (λ mask. record old { now = record old.now { board = board_after set old.now.board (Hold mask) } })
-      (mask-is old.now.board.memory.held (held frame))
+  held-state frame block between done = rw (← mask-is (state_in block).now.board.memory.held (held frame)) (done.board roms).state_is
 
   -- the state after a frame that met this stop, or none
   abbrev left_after : ℕ → Walk BoardView → Option Stop → BoardState
@@ -73,22 +149,20 @@ module _ (roms : List ℕ) (switches : ℕ) (held : ℕ → ℕ) where
       let begun : state_in done.between ≡ ready set switches held frames =
       held-state (suc frames) old.block done.between (was-done _ done.hold)
       ∙ (λ i. record { now = stands.now i; asked = stands.asked i; due = stands.due i }) in
-      let called = subst (IsCalled roms new ran) begun
-      (record {
-        told = tells roms done.between 16500 old.samples new.block new.samples ran executes;
-        state_is = executes.board.state_is;
-      }) in
+      let told = subst (Tells roms 16500 new.block new.samples ran) begun
+      (tells roms done.between 16500 old.samples new.block new.samples ran executes) in
       let same = course-is set switches held frames in
       let after : state_in new.block ≡ left_after frames (played set switches held frames) (played set switches held frames).stop =
-      called.state_is ∙ ap (λ (walked : Walk BoardView). left_after frames walked walked.stop) same in
+      executes.board.state_is
+      ∙ ap (λ state. (board_after_exec (kept roms state) 16500).state) begun
+      ∙ ap (λ (walked : Walk BoardView). left_after frames walked walked.stop) same in
       record {
-        sound = cc (told_is, read.samples, called.told.taken, same);
-        pictures = cc (told_is, read.pictures, called.told.pictures, same);
+        sound = cc (told_is, read.samples, told.taken, same);
+        pictures = cc (told_is, read.pictures, told.pictures, same);
         stop =
-            ap (λ told. (ran_read told).stop) told_is ∙ read.stop
-            ∙ ap (λ (ran : PacRan). ran.stop) called.told.stop
-            ∙ ap (λ (walked : Walk BoardView). (told_stop walked.stop).stop) same;
-        state_is = λ goes. after ∙ ap (left_after frames (played set switches held frames)) goes;
+            rw (told_is, read.stop)
+            (ap (λ (ran : PacRan). ran.stop) told.stop ∙ ap (λ (walked : Walk BoardView). (told_stop walked.stop).stop) same);
+        state_is = λ goes. rw goes at after;
         drawn = cc (draws.drawn, after);
       }
 
@@ -99,18 +173,14 @@ module _ (roms : List ℕ) (switches : ℕ) (held : ℕ → ℕ) where
   seen-frame : (frames : ℕ) (new : Player) (stop : Option Stop) → IsFrameOf frames new → (run set switches held frames).stop ≡ None
       → (played set switches held frames).stop ≡ stop → seen new ≡ drawn_of (pictures_given (played set switches held frames).outputs)
   seen-frame frames new None is open_yet goes =
-      let walked = played set switches held frames in
-      let shown : pictures_given walked.outputs ≡ image_of set walked.now.board.lines ∷ [] =
+      let shown =
       (shows set switches held frames open_yet).late (played-late set switches held frames goes) (played-near set switches held frames) in
-      let count : picture_count walked.outputs ≡ 1 = sym (as-many-pictures walked.outputs) ∙ ap length shown in search rules
+      rw (is.pictures, ← as-many-pictures (played set switches held frames).outputs, shown, is.drawn)
   seen-frame frames new (Some stop) is open_yet ends =
-      let walked = played set switches held frames in
-      let limit = frame_ticks * suc frames in
-      let shown : pictures_given walked.outputs ≡ [] =
-      (shows set switches held frames open_yet).early
-      (stopped-is-early (step (by_view set)) limit (run set switches held frames).now limit stop ends) in
-      let count : picture_count walked.outputs ≡ 0 = sym (as-many-pictures walked.outputs) ∙ ap length shown in
-      ap (λ n. seen_if n new.rgba) (is.pictures ∙ count) ∙ ap drawn_of (sym shown)
+      let shown = (shows set switches held frames open_yet).early
+      (stopped-is-early (step (by_view set)) (frame_ticks * suc frames) (run set switches held frames).now (frame_ticks * suc frames) stop
+      ends) in
+      rw (is.pictures, ← as-many-pictures (played set switches held frames).outputs, shown)
 
   -- ---- all frames from one on
 
@@ -135,21 +205,10 @@ module _ (roms : List ℕ) (switches : ℕ) (held : ℕ → ℕ) where
   frame-first frames last new more others is whole pictures rest =
       let before = (run set switches held frames).outputs in
       let now = (played set switches held frames).outputs in
-      let one = pictures_given before in
-      let two = pictures_given now in
       record {
-        sound_is =
-            cc (is.sound, append_assoc (samples_given before) (samples_given now) more, samples-append before now, whole, rest.sound_is);
-        pictures_are =
-            let parts = append_assoc (drawn_of one) (drawn_of two) others in
-            let both = map-append rgba_of_image one two in
-            cc (pictures, parts, both, pictures-joined before now, whole, rest.pictures_are);
+        sound_is = rw (is.sound, ← append_assoc, ← samples-append, ← whole) rest.sound_is;
+        pictures_are = rw (pictures, ← append_assoc, ← map-append, ← pictures-joined, ← whole) rest.pictures_are;
       }
-
-  follows : (stop : Option Stop) (others : List ℤ → List (List ℕ) → Type 0) (told : ℕ) (sound : List ℤ) (pictures : List (List ℕ))
-      → told ≡ (told_stop stop).stop → FollowedBy told others sound pictures
-      → FollowedBy (told_stop stop).stop others sound pictures
-  follows stop others told sound pictures is after = subst (λ told. FollowedBy told others sound pictures) is after
 
   stopped-alone : (stop : Stop) (others : List ℤ → List (List ℕ) → Type 0) (sound : List ℤ) (pictures : List (List ℕ))
       → FollowedBy (told_stop (Some stop)).stop others sound pictures → (sound ≡ []) × (pictures ≡ [])
@@ -159,18 +218,19 @@ module _ (roms : List ℕ) (switches : ℕ) (held : ℕ → ℕ) where
       → IsBetween set switches held frames (state_in old.block)
       → PlaysFrames roms held (suc frames) left old sound pictures → IsRun frames (frames + left) sound pictures
   frames-are-run zero frames old sound pictures stands none =
-      let same : frames + 0 ≡ frames = omega arith in
-      nothing-more frames (frames + 0) sound pictures (ap (run set switches held) same) none
+      let same : frames + 0 ≡ frames = omega arith in nothing-more frames _ sound pictures (ap (run set switches held) same) none
   frames-are-run (suc left) frames old sound pictures stands plays =
       let is = frame-of _ _ _ stands plays.frame in
       let stop = (played set switches held frames).stop in
-      subst (λ sound. IsRun frames (frames + suc left) sound pictures) (sym plays.sound_is)
-      (subst (λ pictures. IsRun frames (frames + suc left) (heard plays.new ++ plays.more) pictures) (sym plays.pictures_are)
+      rw (plays.sound_is, plays.pictures_are)
       (frame-first _ _ _ _ _ is (run-outputs set switches held frames stop stands.open_yet refl)
       (seen-frame frames plays.new stop is stands.open_yet refl)
       (choose (λ next after. frames-are-run left (suc frames) plays.new plays.more plays.others_seen next after) is stop refl
-      (follows stop _ _ _ _ is.stop plays.after))))
+      (rw is.stop at plays.after)))
     where
+      number : suc frames + left ≡ frames + suc left
+      number = omega arith
+
       choose : (IsBetween set switches held (suc frames) (state_in plays.new.block)
           → PlaysFrames roms held (suc (suc frames)) left plays.new plays.more plays.others_seen
           → IsRun (suc frames) (suc frames + left) plays.more plays.others_seen)
@@ -178,35 +238,24 @@ module _ (roms : List ℕ) (switches : ℕ) (held : ℕ → ℕ) where
           → FollowedBy (told_stop stop).stop (λ sound pictures. PlaysFrames roms held (suc (suc frames)) left plays.new sound pictures)
           plays.more plays.others_seen → IsRun (suc frames) (frames + suc left) plays.more plays.others_seen
       choose on is None goes after =
-          let number : suc frames + left ≡ frames + suc left = omega arith in
           let next = subst (IsBetween set switches held (suc frames)) (sym (is.state_is goes))
           (next-between set switches held frames stands.open_yet goes) in
           subst (λ last. IsRun (suc frames) last plays.more plays.others_seen) number (on next after)
       choose on is (Some stop) ends after =
-          let number : suc frames + left ≡ frames + suc left = omega arith in
           let met = ap (λ (w : Walk BoardView). w.stop) (run-goes set switches held frames (Some stop) stands.open_yet ends) in
-          let stays : run set switches held (frames + suc left) ≡ run set switches held (suc frames) =
-          cc (number, run-stays set switches held (suc frames) left stop met) in
-          nothing-more (suc frames) (frames + suc left) plays.more plays.others_seen stays
+          nothing-more (suc frames) (frames + suc left) plays.more plays.others_seen
+          (ap (run set switches held) (sym number) ∙ run-stays set switches held (suc frames) left stop met)
           (stopped-alone stop _ plays.more plays.others_seen after)
 
 -- ---- from power-on
 
+part-size : (at size : ℕ) (roms : List ℕ) → at + size ≤ length roms → length (bytes_at_place at size roms) ≡ size
+part-size at size roms room = grind (arith, length-drop, length-take-le)
+
 -- ROMs of their length are whole
 roms-whole : (roms : List ℕ) → length roms ≡ roms_size → IsWhole (set_of_roms roms)
 unfolding set_of_roms
-roms-whole roms long = record {
-  program = part-size 0 program_size roms (omega (arith, long));
-  tiles = part-size 16384 tiles_size roms (omega (arith, long));
-  sprites = part-size 20480 sprites_size roms (omega (arith, long));
-  colours = part-size 24576 colour_prom_size roms (omega (arith, long));
-  lookup = part-size 24608 lookup_prom_size roms (omega (arith, long));
-  wave = part-size 24864 wave_prom_size roms (omega (arith, long));
-}
-  where
-    part-size : (at size : ℕ) (roms : List ℕ) → at + size ≤ length roms → length (bytes_at_place at size roms) ≡ size
-    part-size at size roms room =
-        let left = length-drop at roms in length-take-le size (drop at roms) (omega (arith, left, room))
+roms-whole roms long = search (rules, arith, part-size)
 
 pub hosts-play-the-film : HostsPlayTheFilm
 hosts-play-the-film roms items switches play block player sound pictures lie init plays =

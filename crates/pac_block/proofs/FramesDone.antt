@@ -1,9 +1,9 @@
 -- No call of a host that plays frame by frame fails.
-use Rattle.pac_block.proofs.Common.{AllFramesAreDone, Becomes, BoardState, Closed, Draws, Err, ExecFails, Execs, FrameCalls, HasRoom}
-use Rattle.pac_block.proofs.Common.{HostFault, IsBetweenFrames, IsBlock, IsFrameAnswered, IsNotBehind, List, NoBoard, NoFile, NoRoom, Ok}
-use Rattle.pac_block.proofs.Common.{Player, Result, TooLong, WrongLength, all_inputs, ap, arith, asked_in, board_holding, board_in, code_of}
-use Rattle.pac_block.proofs.Common.{inl, inr, length, most_asked, most_samples, refl, rgba_size, roms_size, room_of, rules, state_in, subst}
-use Rattle.pac_block.proofs.Common.{sym, ℕ, ℤ, ◌+◌, ◌≡◌, ◌≢◌, ◌≤◌, ◌⊎◌}
+use Rattle.pac_block.proofs.Common.{AllFramesAreDone, Becomes, BoardState, Draws, Err, ExecFails, Execs, FrameCalls, HasRoom, HostFault}
+use Rattle.pac_block.proofs.Common.{IsBetweenFrames, IsBlock, IsFrameAnswered, IsNotBehind, List, NoBoard, NoRoom, Ok, Player, Result}
+use Rattle.pac_block.proofs.Common.{TooLong, WrongLength, all_inputs, ap, arith, asked_in, board_holding, board_in, code_of, inl, inr}
+use Rattle.pac_block.proofs.Common.{length, most_asked, most_samples, refl, rgba_size, roms_size, room_of, state_in, subst, sym, ℕ, ℤ, ◌+◌}
+use Rattle.pac_block.proofs.Common.{◌≡◌, ◌≤◌}
 use Rattle.pac_block.proofs.Films.{was-done}
 use Rattle.pac_block.proofs.Stops.{left-not-behind}
 use Rattle.pac_block.proofs.TimeParts.{room-bounded}
@@ -17,7 +17,8 @@ record IsDone (comes_to : Result (Unit {0}) HostFault → Type 0) (code : ℕ) :
 
 call-done : (comes_to : Result (Unit {0}) HostFault → Type 0) (code : ℕ) (answer : Result (Unit {0}) HostFault) → code ≡ code_of answer
     → comes_to answer → ((fault : HostFault) → comes_to (Err fault) → ⊥) → IsDone comes_to code
-call-done comes_to code answer is does never = search rules
+call-done comes_to code (Ok tt) is does never = record { code_is = is; done = does }
+call-done comes_to code (Err fault) is does never = absurd (never fault does)
 
 held-done : (inputs : ℕ) (old new : List ℕ) → IsBlock old → (fault : HostFault)
     → Becomes (board_holding inputs all_inputs) old (Err fault) new → ⊥
@@ -34,16 +35,10 @@ exec-done roms block samples roms_are is_block within room fault not = not
 
 drawn-done : (roms block old new : List ℕ) → length roms ≡ roms_size → length old ≡ rgba_size → IsBlock block → (fault : HostFault)
     → Draws roms block old (Err fault) new → ⊥
-drawn-done roms block old new roms_are size is_block WrongLength not = choose not.0
-  where
-    choose : (length roms ≢ roms_size) ⊎ (length old ≢ rgba_size) → ⊥
-    choose (inl wrong) = wrong roms_are
-    choose (inr wrong) = wrong size
+drawn-done roms block old new roms_are size is_block WrongLength (inl wrong, same) = wrong roms_are
+drawn-done roms block old new roms_are size is_block WrongLength (inr wrong, same) = wrong size
 drawn-done roms block old new roms_are size is_block NoBoard not = not.0.2 is_block
-drawn-done roms block old new roms_are size is_block TooLong not = not.0
-drawn-done roms block old new roms_are size is_block NoRoom not = not.0
-drawn-done roms block old new roms_are size is_block (NoFile fault) not = not.0
-drawn-done roms block old new roms_are size is_block Closed not = not.0
+drawn-done roms block old new roms_are size is_block fault not = not.0
 
 -- ---- a frame
 

@@ -1,14 +1,10 @@
 pub mod Common
 pub mod Executed
-pub mod Filling
 pub mod FrameWalks
-pub mod Told
-pub mod FilmRuns
 pub mod Films
 pub mod FramesDone
 pub mod OneBoard
 pub mod OneStep
-pub mod RoomOfCalls
 pub mod Sounding
 pub mod Stops
 pub mod TimeParts

@@ -27,13 +27,11 @@ loaded roms text new fields sized fits found is written =
     let read = accepts set text fits (Ok (loaded_board set text)) (record { sound = found.sound; text = found.text; board = refl }) in
     let same : upgraded_state set version (state_of fields) ≡ (loaded_board set text).state =
     ap (upgraded_state set version) found.state ∙ upgraded-is set version (state_in text) in
-    let block : IsBlockOf (loaded_board set text).state new =
-    subst (λ (state : BoardState). IsBlockOf state new) same
-    (block-of (upgraded_state set version (state_of fields)) new (upgraded-is-state set version (state_of fields) is) written) in
+    let block = block-of (upgraded_state set version (state_of fields)) new (upgraded-is-state set version (state_of fields) is) written in
     record {
       roms_are = sized;
       file = read.file;
-      board = λ file. subst (λ (board : BoardValue). IsBlockOf board.state new) (read.board file) block;
+      board = λ file. subst (λ state. IsBlockOf state new) (same ∙ ap (λ (board : BoardValue). board.state) (read.board file)) block;
     }
 
 pub not-loaded : (roms text : List ℕ) (fault : LoadFault) → length roms ≡ roms_size → ((i : ℕ) → get_or text i 0 < 256)

@@ -1,7 +1,7 @@
 -- The calls on a host's blocks are the calls of one board, whose count of steps is all that its blocks don't keep.
 use Rattle.pac_block.proofs.Common.{AreCallsOfBoard, AreDone, BlocksAreOneBoard, BoardState, BoardValue, Bool, HostCall, IsCallDone}
 use Rattle.pac_block.proofs.Common.{IsCallOfBoard, IsFile, LetTimePass, List, PowerOn, TakeFile, [], ap, board_after_exec, board_of_file}
-use Rattle.pac_block.proofs.Common.{if◌then◌else◌, refl, rules, set_of_roms, state_in, ℕ, ◌==◌, ◌∙◌, ◌∷◌, ◌≡◌}
+use Rattle.pac_block.proofs.Common.{if◌then◌else◌, refl, rules, set_of_roms, state_in, ℕ, ◌==◌, ◌∷◌, ◌≡◌}
 
 -- the board of these ROMs in this state, which counted so many steps
 abbrev kept : List ℕ → BoardState → ℕ → BoardValue
@@ -26,24 +26,16 @@ file-board-is : (roms text : List ℕ) (file : IsFile (set_of_roms roms) text)
 file-board-is roms text file = upgraded-is (file.version == 1) (kept roms file.state 0) _ refl refl
 
 one-call : (roms : List ℕ) (call : HostCall) (old new : List ℕ) (made : ℕ) → IsCallDone roms call old new → IsOneCall roms call old new made
-one-call roms (PowerOn switches) old new made done = record {
-  after = 0;
-  call_is = ap (λ (state : BoardState). kept roms state 0) done.board.state_is;
+one-call roms (PowerOn switches) old new made done = record { after = 0; call_is = rw done.board.state_is }
+one-call roms (LetTimePass microseconds) old new made done = record {
+  after = (board_after_exec (kept roms (state_in old) made) microseconds).made;
+  call_is = rw done.3.board.state_is;
 }
-one-call roms (LetTimePass microseconds) old new made done =
-    let after = (board_after_exec (kept roms (state_in old) made) microseconds).made in
-    record { after = after; call_is = ap (λ (state : BoardState). kept roms state after) done.3.board.state_is }
 one-call roms (TakeFile text) old new made done = record {
   after = 0;
-  call_is = (
-    done.file,
-    ap (λ (state : BoardState). kept roms state 0) (done.board done.file).state_is ∙ file-board-is roms text done.file,
-  );
+  call_is = (done.file, rw (done.board done.file).state_is (file-board-is roms text done.file));
 }
-one-call roms call old new made done = record {
-  after = made;
-  call_is = ap (λ (state : BoardState). kept roms state made) (done.board roms).state_is;
-}
+one-call roms call old new made done = record { after = made; call_is = rw (done.board roms).state_is }
 
 -- ---- calls, one after another
 
@@ -54,11 +46,7 @@ record AreMade (roms : List ℕ) (calls : List HostCall) (old new : List ℕ) (m
 
 are-made : (roms : List ℕ) (calls : List HostCall) (old new : List ℕ) (made : ℕ) → AreDone roms calls old new
     → AreMade roms calls old new made
-are-made roms [] old new made done = record {
-  board = kept roms (state_in old) made;
-  calls_are = refl;
-  state = ap state_in done;
-}
+are-made roms [] old new made done = record { board = kept roms (state_in old) made; calls_are = refl; state = ap state_in done }
 are-made roms (call ∷ calls) old new made done =
     let one = one-call roms call old done.0 made done.1 in
     let more = are-made roms calls done.0 new one.after done.2 in search rules

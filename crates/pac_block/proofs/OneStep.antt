@@ -1,6 +1,6 @@
 -- A microsecond has at most four T-states, as many as each step takes at least.
 use Rattle.pac_block.proofs.Common.{BoardState, Bool, IsTimely, None, OneStepAtMost, ap, arith, ended-whole, nat_le, onward_if, rules}
-use Rattle.pac_block.proofs.Common.{set_of_roms, state_in, step-timely, subst, sym, time_of, walk-ends, ℕ, ◌+◌, ◌∙◌, ◌≤◌}
+use Rattle.pac_block.proofs.Common.{set_of_roms, state_in, step-timely, time_of, walk-ends, ℕ, ◌+◌, ◌≤◌}
 use Rattle.pac_board_model.specs.Step.{Moment, Next, step}
 use Rattle.pac_board_model.specs.Trace.{by_view}
 use Rattle.pac_board_model.specs.Walk.{walk_at_start}
@@ -16,11 +16,10 @@ soon asked time late = omega (arith, late)
 pub one-step-at-most : OneStepAtMost
 one-step-at-most roms block new samples samples_after ran done late =
     let state = state_in block in
-    let now = state.now in
-    let limit = time_of (state.asked + 1) in
     let ask = by_view (set_of_roms roms) in
-    let ended = walk-ends (step ask) limit (step-timely ask) now 1 (soon state.asked now.time late) in
-    let whole = ended-whole (step ask) limit (step-timely ask) now 1 ended in
-    let first = first-counted (step ask) now (nat_le limit now.time) (step-timely ask now) in
-    subst (λ (steps : ℕ). steps ≤ now.steps + 1)
-    (ap (λ w. w.now.steps) whole ∙ sym (ap (λ (state : BoardState). state.now.steps) done.board.state_is)) first
+    let ended = walk-ends (step ask) _ (step-timely ask) state.now 1 (soon state.asked _ late) in
+    let whole = ended-whole (step ask) _ (step-timely ask) state.now 1 ended in
+    let first = first-counted (step ask) state.now (nat_le (time_of (state.asked + 1)) state.now.time) (step-timely ask state.now) in
+    let same = ap (λ (state : BoardState). state.now.steps) done.board.state_is in
+    let counted = ap (λ w. w.now.steps) whole in
+    omega (arith, first, same, counted)

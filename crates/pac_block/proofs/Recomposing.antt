@@ -4,8 +4,8 @@ use Rattle.pac_block.proofs.Common.{cases_lt, common_steps, composed_lines, devi
 use Rattle.pac_block.proofs.Common.{file_front, flat_map-append, get_or, get_or-append_right, get_or-drop, get_or-tabulate}
 use Rattle.pac_block.proofs.Common.{get_or_append_left, head, joined_pieces, length, length-append, length-drop, length-front}
 use Rattle.pac_block.proofs.Common.{length-line_of, length-tabulate, line-below, no_digest, picture-is, picture_line, picture_offset, ram}
-use Rattle.pac_block.proofs.Common.{refl, rules, state_with_lines, subst, suc, sym, tabulate, take, take-append_seam, written_version, zero}
-use Rattle.pac_block.proofs.Common.{ℕ, ◌*◌, ◌++◌, ◌+◌, ◌<◌, ◌∙◌, ◌∷◌, ◌≡◌, ◌≤◌}
+use Rattle.pac_block.proofs.Common.{refl, rules, state_with_lines, suc, sym, tabulate, take, take-append_seam, written_version, zero, ℕ}
+use Rattle.pac_block.proofs.Common.{◌*◌, ◌++◌, ◌+◌, ◌<◌, ◌∙◌, ◌∷◌, ◌≡◌, ◌≤◌}
 
 -- ---- a picture composed from the top is one
 
@@ -20,10 +20,7 @@ pub composed-picture : (roms : VideoRoms) (memory : VideoMemory) (count : ℕ) (
 composed-picture roms memory count lines picture within =
     let value = picture_line roms memory in
     let high = picture.high in
-    let long = length-tabulate count value in
-    let left = length-drop count lines in
-    let all = length-append (tabulate count value) (drop count lines) in
-    picture-is _ (omega (arith, high, within, long, left, all))
+    picture-is _ (simp (length-append, length-tabulate, length-drop) (omega (arith, high, within)))
     (λ y below. line-of (λ (line : List ℕ). length line ≡ 288) value count lines y (length-line_of roms memory y) (picture.wide y below))
     (λ x y below. line-of (λ (line : List ℕ). get_or line x 0 < 16) value count lines y (line-below roms memory y x) (picture.below x y))
 
@@ -33,13 +30,10 @@ composed-picture roms memory count lines picture within =
 spliced : (at : ℕ) (before old new after : List ℕ) → length before ≡ at → length old ≡ length new
     → take at (before ++ (old ++ after)) ++ new ++ drop (at + length new) (before ++ (old ++ after)) ≡ before ++ (new ++ after)
 spliced at before old new after here same =
-    let first : take at (before ++ (old ++ after)) ≡ before =
-    subst (λ (at : ℕ). take at (before ++ (old ++ after)) ≡ before) here (take-append_seam before (old ++ after)) in
-    let last : drop at (before ++ (old ++ after)) ≡ old ++ after =
-    subst (λ (at : ℕ). drop at (before ++ (old ++ after)) ≡ old ++ after) here (drop-append_seam before (old ++ after)) in
+    let first : take at (before ++ (old ++ after)) ≡ before = rw (← here) (take-append_seam before (old ++ after)) in
+    let last : drop at (before ++ (old ++ after)) ≡ old ++ after = rw (← here) (drop-append_seam before (old ++ after)) in
     let rest : drop (at + length new) (before ++ (old ++ after)) ≡ after =
-    sym (drop-drop (length new) at (before ++ (old ++ after))) ∙ ap (drop (length new)) last
-    ∙ subst (λ (size : ℕ). drop size (old ++ after) ≡ after) same (drop-append_seam old after) in grind (arith, common_steps)
+    rw (← drop-drop (length new) at (before ++ (old ++ after)), last, ← same) (drop-append_seam old after) in grind (arith, common_steps)
 
 -- where the lines that are composed end
 lines-long : (value : ℕ → List ℕ) → ((y : ℕ) → length (value y) ≡ 288) → (count : ℕ)
@@ -52,11 +46,7 @@ lines-long value wide (suc count) = grind (arith, flat_map-append, length-append
 apart : (front : List ℕ) (before : List (List ℕ)) (piece : List ℕ) (after : List (List ℕ)) (end : List ℕ)
     → (front ++ joined_pieces (before ++ (piece ∷ after))) ++ end
     ≡ (front ++ joined_pieces before) ++ (piece ++ (joined_pieces after ++ end))
-apart front before piece after end =
-    ap (λ (pieces : List ℕ). (front ++ pieces) ++ end) (flat_map-append (λ (piece : List ℕ). piece) before (piece ∷ after))
-    ∙ ap (λ (text : List ℕ). text ++ end) (sym (append_assoc front (joined_pieces before) (piece ++ joined_pieces after)))
-    ∙ append_assoc (front ++ joined_pieces before) (piece ++ joined_pieces after) end
-    ∙ ap (λ (text : List ℕ). (front ++ joined_pieces before) ++ text) (append_assoc piece (joined_pieces after) end)
+apart front before piece after end = simp (flat_map-append, append_assoc)
 
 -- the block of a state with these lines
 abbrev with_text : BoardState → List (List ℕ) → List ℕ
@@ -98,16 +88,11 @@ line-put roms memory state y line old new is below composed text put =
     let both = length-append front (joined_pieces before) in
     let at : length (front ++ joined_pieces before) ≡ picture_offset y = omega (arith, first, some, both) in
     let next : y + 1 ≡ suc y = omega arith in
-    let parts : List ℕ → List ℕ = λ (line : List ℕ). (front ++ joined_pieces before) ++ (line ++ (joined_pieces after ++ no_digest)) in
-    put
-    ∙ ap (λ (size : ℕ). take (picture_offset y) old ++ line ++ drop (picture_offset y + size) old) (sym wide)
-    ∙ ap (λ (old : List ℕ). take (picture_offset y) old ++ line ++ drop (picture_offset y + length line) old) was
-    ∙ spliced (picture_offset y) (front ++ joined_pieces before) here line (joined_pieces after ++ no_digest) at width
-    ∙ ap parts composed
-    ∙ sym (apart front before (value y) after no_digest)
-    ∙ ap (with_text state) (sym (append_assoc before (value y ∷ []) after))
-    ∙ ap (λ (n : ℕ). with_text state (composed_lines roms memory n lines)) (sym next)
-    ∙ sym (text-is roms memory (y + 1) state)
+    let put_there = spliced (picture_offset y) (front ++ joined_pieces before) here line (joined_pieces after ++ no_digest) at width in
+    let parted = apart front before (value y) after no_digest in
+    let regrouped = append_assoc before (value y ∷ []) after in
+    let is_text = text-is roms memory (y + 1) state in
+    cc
 
 -- ---- the state
 

@@ -3,7 +3,7 @@ use Rattle.pac_block.proofs.Common.{BoardValue, Bool, Cut, Err, Executes, Fault,
 use Rattle.pac_block.proofs.Common.{TooFar, TookAll, [], ap, arith, by, common_steps, course_at, drop, drop-set-lt, due_outputs, due_with}
 use Rattle.pac_block.proofs.Common.{length, length-set, min, most_asked, most_samples, nat_tests, outputs_given, refl, rules, sample_ticks}
 use Rattle.pac_block.proofs.Common.{samples_due, samples_given, sounding_refused, sounding_took, take, take-append-drop, take_more_set}
-use Rattle.pac_block.proofs.Common.{time_of, walks-are-timed, ℕ, ℤ, ◌++◌, ◌+◌, ◌-◌, ◌/◌, ◌<◌, ◌^◌, ◌∙◌, ◌∷◌, ◌≡◌, ◌≤◌}
+use Rattle.pac_block.proofs.Common.{time_of, walks-are-timed, ℕ, ℤ, ◌++◌, ◌+◌, ◌-◌, ◌/◌, ◌<◌, ◌^◌, ◌∷◌, ◌≡◌, ◌≤◌}
 use Rattle.pac_board_model.specs.Output.{Output, Sound, Show, Image, image_of, sound_count, picture_count}
 use Rattle.pac_board_model.specs.Step.{frame_ticks}
 use Rattle.pac_board_model.specs.Trace.{by_view}
@@ -46,8 +46,7 @@ are-written [] old new room few same = grind (arith, nothing-written)
 are-written (Sound sample ∷ more) old new room few took =
     let one = took.before in
     let between = took.between in
-    let size : length between.samples.now ≡ length old.samples.now =
-    ap length one.written ∙ length-set old.samples.now old.taken sample in
+    let size : length between.samples.now ≡ length old.samples.now = rw one.written (length-set old.samples.now old.taken sample) in
     let wide : between.taken ≤ length between.samples.now = let r = one.room in let t = one.taken in omega (arith, size, r, t) in
     let rest = are-written more between new wide (let p = one.pictures in omega (arith, few, p)) took.after in
     let front : take between.taken between.samples.now ≡ take old.taken old.samples.now ++ sample ∷ [] = grind (arith, take_more_set) in
@@ -55,10 +54,8 @@ are-written (Sound sample ∷ more) old new room few took =
     grind (arith, common_steps)
 are-written (Show image ∷ more) old new room few took =
     let one = took.before in
-    let between = took.between in
-    let wide : between.taken ≤ length between.samples.now =
-    let size = ap length one.samples in let t = one.taken in omega (arith, size, t, room) in
-    let rest = are-written more between new wide (let p = one.pictures in omega (arith, few, p)) took.after in search rules
+    let wide : took.between.taken ≤ length took.between.samples.now = rw (one.samples, one.taken) room in
+    let rest = are-written more took.between new wide (let p = one.pictures in omega (arith, few, p)) took.after in search rules
 
 -- ---- none is refused
 
@@ -72,9 +69,8 @@ pub none-refused : {A : Type 0} (outputs left : List Output) (old new : Sounds) 
 none-refused outputs left old new none no_picture room cut =
     let refuses = cut.refuses in
     let written = are-written cut.taken old refuses.asked (omega arith) (omega arith) refuses.before in
-    let all = ap sound_count (cut.parts ∙ ap (λ left. cut.taken ++ left) refuses.left_is) in
-    not-refused refuses.first refuses.rest cut.taken refuses.asked new
-    (let t = written.taken in omega (arith, t, none)) (omega (arith, all, room)) refuses.refusal
+    not-refused refuses.first refuses.rest cut.taken refuses.asked new (let t = written.taken in omega (arith, t, none))
+    (rw (← refuses.left_is, ← cut.parts, written.size) room) refuses.refusal
 
 -- ---- how many come
 
@@ -113,8 +109,8 @@ module _ (board : BoardValue) (microseconds : ℕ) where
   pictures-bounded few =
       let walked = course_at board microseconds limit in
       let sounds = sounds-append (due_outputs board) walked.outputs in
-      let due = due-pictures board.state.due.sample board.state.due.picture (image_of board.set board.state.now.board.lines) in
       let bound = sounds-bounded limit in
+      let due = due-pictures board.state.due.sample board.state.due.picture (image_of board.set board.state.now.board.lines) in
       let come = few-come _ _ _ _ _ (timed limit).samples (timed limit).pictures (omega (arith, sounds, bound, few)) due in
       omega (arith, pictures-append (due_outputs board) walked.outputs, come)
 
@@ -124,7 +120,6 @@ pub runs-to-its-end : {A : Type 0} (fault : Fault) (board : BoardValue) (microse
     → sink.taken ≡ 0 → sink.pictures ≡ 0 → board.state.asked + microseconds ≤ most_asked
     → most_samples board.state microseconds ≤ length sink.samples.now
     → Executes (by sounding_took sounding_refused) board microseconds sink (Err fault) new later → A
-runs-to-its-end TooFar board microseconds sink new later none no_picture within room far = search rules
 runs-to-its-end Refused board microseconds sink new later none no_picture within room refused =
-    let bound = sounds-bounded board microseconds refused.steps in
-    none-refused _ _ _ _ none no_picture (omega (arith, bound, room)) refused.cut
+    none-refused _ _ _ _ none no_picture (omega (arith, sounds-bounded board microseconds refused.steps, room)) refused.cut
+runs-to-its-end TooFar board microseconds sink new later none no_picture within room far = search rules

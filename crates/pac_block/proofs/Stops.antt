@@ -21,7 +21,8 @@ module _ {Board : Type 0} (next : Moment Board → Next Board) (timely : (now : 
   -- where the next step is a stop, each walk meets it
   pub stops : (limit : ℕ) (now : Moment Board) (stop : Stop) → now.time < limit → next now ≡ Ends stop
       → walk_to next limit now ≡ stopped_at now stop
-  stops limit now stop early ends = let one = one-step _ _ early ∙ ap (walk_after_step (walk_at_start now)) ends in
+  stops limit now stop early ends =
+      let one = one-step _ _ early ∙ ap (walk_after_step (walk_at_start now)) ends in
       sym (ended-whole next limit timely now (suc zero) (ap (has_ended limit) one)) ∙ one
 
   -- where a walk met a stop and no time went by, the next step is that stop
@@ -134,10 +135,7 @@ module _ (board : BoardValue) (one other : ℕ) where
       choose (Some stop) met =
           let cut = cuts board one other in
           let again = stopped-again stop met in
-          let whole = course (with_asked all_asked) other in
           let early : now.time < time_of (all_asked + other) = let first = early-at board _ _ met in omega (arith, first) in
-          let same : course (board_after_exec board one) other ≡ whole = again ∙ sym (met-again all_asked stop met early) in
-          let stopped : whole.stop ≡ Some stop = ap (λ (w : Walk BoardView). w.stop) (met-again all_asked stop met early) in
-          let final : (course board (one + other)).stop ≡ Some stop = sym cut.stop_is ∙ stopped in
-          let time : whole.now.time ≡ (course board (one + other)).now.time =
-          ap (λ (board : BoardValue). board.state.now.time) cut.board_is in search rules
+          let both = met-again all_asked stop met early in
+          let stopped : (course (with_asked all_asked) other).stop ≡ Some stop = ap (λ (w : Walk BoardView). w.stop) both in
+          let final : (course board (one + other)).stop ≡ Some stop = sym cut.stop_is ∙ stopped in search rules

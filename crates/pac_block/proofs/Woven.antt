@@ -1,8 +1,8 @@
 -- What colour numbers pick of a vector, vectors that are woven, and the pixels that come of both.
-use Rattle.pac_block.proofs.Common.{Each1-from_get_or, List, SwzOk, SwzOk-from_below, [], ap, arith, coloured, common_steps, drop}
-use Rattle.pac_block.proofs.Common.{ext_get_or, flat_map, flat_map-append, get_or, get_or-map, get_or-swz_l_below, get_or-tabulate, length}
-use Rattle.pac_block.proofs.Common.{length-map, length-swz_l, map, opaque_pixel, pick_l_whole, range_with_len, refl, replicate, slice_index}
-use Rattle.pac_block.proofs.Common.{suc, swz_l, sym, take, take-add, w8, woven, ℕ, ◌++◌, ◌+◌, ◌<◌, ◌∙◌, ◌∷◌, ◌≡◌}
+use Rattle.pac_block.proofs.Common.{Each1-from_get_or, List, SwzOk, SwzOk-from_below, [], arith, coloured, common_steps, drop, ext_get_or}
+use Rattle.pac_block.proofs.Common.{flat_map, flat_map-append, get_or, get_or-map, get_or-swz_l_below, get_or-tabulate, length, length-map}
+use Rattle.pac_block.proofs.Common.{length-swz_l, map, opaque_pixel, pick_l_whole, range_with_len, refl, replicate, slice_index, suc, swz_l}
+use Rattle.pac_block.proofs.Common.{sym, take, take-add, w8, woven, ℕ, ◌++◌, ◌+◌, ◌<◌, ◌∙◌, ◌∷◌, ◌≡◌}
 use lib.Lanes.{pick_l}
 
 -- ---- what is picked
@@ -70,4 +70,4 @@ four-parts at old one two three four a b c d first second third fourth = grind (
 -- sixteen elements more
 pub sixteen-more : {Y : Type 0} (f : ℕ → List Y) (xs : List ℕ) (at : ℕ)
     → flat_map f (take at xs) ++ flat_map f (take 16 (drop at xs)) ≡ flat_map f (take (at + 16) xs)
-sixteen-more f xs at = sym (flat_map-append f (take at xs) (take 16 (drop at xs))) ∙ ap (flat_map f) (sym (take-add at 16 xs))
+sixteen-more f xs at = rw (take-add, flat_map-append)

@@ -1,12 +1,11 @@
 -- An image that is made of pieces of one length, of which some are written over.
-use Rattle.pac_media.proofs.Common.{AreColours, EachIndex, IsDrawnTo, IsPicture, List, [], ap, append-nil, append_assoc, arith, cases_lt}
+use Rattle.pac_media.proofs.Common.{AreColours, EachIndex, IsDrawnTo, IsPicture, List, [], append-nil, append_assoc, arith, cases_lt}
 use Rattle.pac_media.proofs.Common.{common_steps, drop, drop-append-add, drop-cons, drop-drop, flat_map, flat_map-append, flat_map_more}
 use Rattle.pac_media.proofs.Common.{get_or, get_or-append_right, get_or-drop, get_or-take, get_or_append_left, get_or_default, header}
 use Rattle.pac_media.proofs.Common.{length, length-append, length-drop, length-take, length-take-le, palette_colour, ppm_of, refl, rules}
-use Rattle.pac_media.proofs.Common.{same_lists, set, set_split, slice_index, subst, suc, sym, take, take-append-add, take-put_mid, take_all}
-use Rattle.pac_media.proofs.Common.{take_at, take_more, zero, ℕ, ◌*◌, ◌++◌, ◌+◌, ◌<◌, ◌∙◌, ◌∷◌, ◌≡◌, ◌≤◌}
+use Rattle.pac_media.proofs.Common.{same_lists, set, set_split, slice_index, suc, sym, take, take-add, take-append-add, take-put_mid}
+use Rattle.pac_media.proofs.Common.{take_all, take_at, take_more, zero, ℕ, ◌*◌, ◌++◌, ◌+◌, ◌<◌, ◌∙◌, ◌∷◌, ◌≡◌, ◌≤◌}
 use borrow.Rule.Slice.PartMut.{put_mid}
-use Rattle.pac_media.proofs.Words.{take-more}
 
 -- what each of these gives has one length
 abbrev pub ArePieces : {X Y : Type 0} → (X → List Y) → ℕ → X → List X → Type 0
@@ -32,19 +31,16 @@ split-pieces f size other [] (suc count) each fits = absurd (omega (arith, fits)
 split-pieces f size other (x ∷ xs) (suc count) each fits =
     let sum : size * suc count ≡ length (f x) + size * count = omega (arith, each 0 (omega arith)) in
     let rest = split-pieces f size other xs count (rest-pieces f size other x xs each) (omega (arith, fits)) in
-    let rows = flat_map f xs in
-    rw sum (take-append-add (f x) rows (size * count) ∙ ap (λ all. f x ++ all) rest.0, drop-append-add (f x) rows (size * count) ∙ rest.1)
+    rw (sum, take-append-add (f x) (flat_map f xs), drop-append-add (f x) (flat_map f xs), rest.0, rest.1) (refl, refl)
 
 -- some pieces written over by others
 put-pieces : {X Y : Type 0} (f : X → List Y) (size : ℕ) (other : X) (xs ys : List X) (at count : ℕ) → ArePieces f size other xs →
     at + count ≤ length xs → put_mid (size * at) (size * count) (flat_map f xs) (flat_map f ys) ≡ flat_map f (put_mid at count xs ys)
 put-pieces f size other xs ys at count each fits =
     let both : size * at + size * count ≡ size * (at + count) = omega arith in
-    let before = (split-pieces f size other xs at each (omega (arith, fits))).0 in
-    let after : drop (size * count) (drop (size * at) (flat_map f xs)) ≡ flat_map f (drop count (drop at xs)) =
-    drop-drop (size * count) (size * at) (flat_map f xs)
-    ∙ (cc (both, (split-pieces f size other xs (at + count) each fits).1, drop-drop count at xs)) in
-    grind (arith, flat_map-append)
+    let before = split-pieces f size other xs at each (omega (arith, fits)) in
+    let after = split-pieces f size other xs (at + count) each fits in
+    grind (arith, flat_map-append, drop-drop)
 
 -- colour numbers
 abbrev AreNumbers : List ℕ → Type 0
@@ -54,13 +50,10 @@ numbers-append : (xs ys : List ℕ) → AreNumbers xs → AreNumbers ys → AreN
 numbers-append xs ys one other k inside = let sum = length-append xs ys in grind (arith, cases_lt, get_or-append_right, get_or_append_left)
 
 numbers-take : (n : ℕ) (xs : List ℕ) → AreNumbers xs → AreNumbers (take n xs)
-numbers-take n xs all k inside =
-    let long = length-take n xs in
-    let first : k < n = omega (arith, inside, long) in
-    rw (get_or-take n xs k 0 first) (all k (omega (arith, inside, long)))
+numbers-take n xs all k inside = grind (arith, length-take, get_or-take, all)
 
 numbers-drop : (n : ℕ) (xs : List ℕ) → AreNumbers xs → AreNumbers (drop n xs)
-numbers-drop n xs all k inside = rw (get_or-drop n xs k 0) (all (n + k) (omega (arith, inside, length-drop n xs)))
+numbers-drop n xs all k inside = grind (arith, length-drop, get_or-drop, all)
 
 -- the colours of a line have three bytes each
 pub line-pieces : (palette : List (List ℕ)) (numbers : List ℕ) → AreColours palette → AreNumbers numbers →
@@ -77,74 +70,66 @@ pub block-drawn : (palette : List (List ℕ)) (numbers pixels kept block piece :
     IsDrawnTo palette start numbers pixels kept → block ≡ take 16 (drop start numbers) → piece ≡ flat_map (palette_colour palette) block →
     IsDrawnTo palette (start + 16) numbers (put_mid (3 * start) part pixels piece) (put_mid start size kept block)
 block-drawn palette numbers pixels kept block piece start part size long same inside is_part is_size was is coloured =
-    let f : ℕ → List ℕ = palette_colour palette in
-    let whole : length block ≡ 16 =
-    ap length is ∙ length-take-le 16 (drop start numbers) (omega (arith, length-drop start numbers, long, inside)) in
+    let left = length-drop start numbers in
+    let whole : length block ≡ 16 = rw is (length-take-le 16 (drop start numbers) (omega (arith, left, long, inside))) in
     let threes : part ≡ 3 * 16 = omega (arith, is_part) in
     let within : start + 16 ≤ length kept = omega (arith, same, inside) in
-    let fits : start ≤ length kept = omega (arith, within) in
     let stop : start + 16 ≡ start + length block = omega (arith, whole) in
-    let block_below : AreNumbers block = subst AreNumbers (sym is) (numbers-take 16 _ (numbers-drop start numbers was.new)) in
-    let wide : length piece ≡ part =
-    ap length coloured ∙ (length-pieces f 3 0 block (line-pieces palette block was.colours block_below) ∙ omega (arith, whole, is_part)) in
-    let room : 3 * start + part ≤ length pixels = omega (arith, inside, is_part, was.size) in
-    let put : put_mid start size kept block ≡ put_mid start 16 kept block = ap (λ n. put_mid start n kept block) is_size in
+    let block_below : AreNumbers block = rw is (numbers-take 16 _ (numbers-drop start numbers was.new)) in
+    let pieces = length-pieces (palette_colour palette) 3 0 block (line-pieces palette block was.colours block_below) in
+    let wide : length piece ≡ part = rw coloured (omega (arith, pieces, whole, is_part)) in
     record {
       colours = was.colours;
-      size = put-long (3 * start) part pixels piece room wide ∙ was.size;
+      size = put-long (3 * start) part pixels piece (omega (arith, inside, is_part, was.size)) wide ∙ was.size;
       new = was.new;
-      below = subst AreNumbers (sym put)
+      below = rw is_size
           (numbers-append _ _ (numbers-take start kept was.below) (numbers-append block (drop 16 (drop start kept)) block_below
           (numbers-drop 16 (drop start kept) (numbers-drop start kept was.below))));
-      drawn = ap (λ n. put_mid (3 * start) n pixels piece) threes
-          ∙ (cc (was.drawn, coloured, put-pieces f 3 0 kept block start 16 (line-pieces palette kept was.colours was.below) within, put));
-      same = grind (arith, take-more, take-put_mid);
+      drawn = rw (threes, is_size, was.drawn, coloured)
+          (put-pieces (palette_colour palette) 3 0 kept block start 16 (line-pieces palette kept was.colours was.below) within);
+      same = grind (arith, take-add, take-put_mid);
     }
 
 -- a part of a line that is the same
 pub part-same : (palette : List (List ℕ)) (numbers pixels kept : List ℕ) (start count : ℕ) →
     take count (drop start numbers) ≡ take count (drop start kept) → IsDrawnTo palette start numbers pixels kept →
     IsDrawnTo palette (start + count) numbers pixels kept
-part-same palette numbers pixels kept start count equal was = grind (arith, take-more)
+part-same palette numbers pixels kept start count equal was = grind (arith, take-add)
 
 -- all of a line
 pub all-kept : (palette : List (List ℕ)) (numbers pixels kept : List ℕ) (count : ℕ) → count ≡ 288 → length numbers ≡ 288 →
     IsDrawnTo palette count numbers pixels kept → kept ≡ numbers
 all-kept palette numbers pixels kept count all long is =
     let pieces = length-pieces (palette_colour palette) 3 0 kept (line-pieces palette kept is.colours is.below) in
-    let one : length kept ≤ count = omega (arith, all, ap length is.drawn ∙ pieces, is.size) in
-    let other : length numbers ≤ count = omega (arith, all, long) in
-    sym (take_all count kept one) ∙ (is.same ∙ take_all count numbers other)
+    grind (arith, take_all)
 
 -- each line of a picture has 864 bytes
 pub picture-pieces : (palette lines : List (List ℕ)) → AreColours palette → IsPicture lines →
     ArePieces (flat_map (palette_colour palette)) 864 [] lines
 picture-pieces palette lines three picture y inside =
-    let line = get_or lines y [] in
     let high : y < 224 = omega (arith, inside, picture.high) in
-    let long = length-pieces (palette_colour palette) 3 0 line (line-pieces palette line three (λ x _. picture.below x y)) in
-    omega (arith, long)
+    let long =
+    length-pieces (palette_colour palette) 3 0 (get_or lines y []) (line-pieces palette _ three (λ x _. picture.below x y)) in
+    omega (arith, long, picture.wide y high)
 
 pub image-length : (palette lines : List (List ℕ)) → AreColours palette → IsPicture lines → length (ppm_of lines palette) ≡ 193551
 unfolding ppm_of
 image-length palette lines three picture =
-    let pixels = flat_map (flat_map (palette_colour palette)) lines in
     let long = length-pieces (flat_map (palette_colour palette)) 864 [] lines (picture-pieces palette lines three picture) in
-    omega (arith, length-append header pixels, long, picture.high)
+    rw length-append (omega (arith, long, picture.high))
 
 -- the pixels of a line in an image
 pub line-part : (palette lines : List (List ℕ)) (y : ℕ) → AreColours palette → IsPicture lines → y < 224 →
     take 864 (drop (15 + 864 * y) (ppm_of lines palette)) ≡ flat_map (palette_colour palette) (get_or lines y [])
 unfolding ppm_of
 line-part palette lines y three picture below =
-    let f : List ℕ → List ℕ = flat_map (palette_colour palette) in
     let each = picture-pieces palette lines three picture in
     let inside : y < length lines = omega (arith, below, picture.high) in
-    let fits : y ≤ length lines = omega (arith, inside) in
-    let long : length (f (get_or lines y [])) ≡ 864 = each y inside in
-    let dropped : drop (15 + 864 * y) (header ++ flat_map f lines) ≡ f (get_or lines y []) ++ flat_map f (drop (suc y) lines) =
-    cc (drop-append-add header (flat_map f lines) (864 * y), (split-pieces f 864 [] lines y each fits).1, drop-cons lines y [] inside) in
-    ap (take 864) dropped ∙ take_at (f (get_or lines y [])) (flat_map f (drop (suc y) lines)) 864 long
+    rw (
+      drop-append-add header,
+      (split-pieces (flat_map (palette_colour palette)) 864 [] lines y each (omega (arith, inside))).1,
+      drop-cons lines y [] inside,
+    ) (take_at (flat_map (palette_colour palette) (get_or lines y [])) _ 864 (each y inside))
 
 -- a line written over in an image
 pub line-drawn : (palette lines : List (List ℕ)) (image pixels numbers : List ℕ) (y part : ℕ) → AreColours palette → IsPicture lines →
@@ -153,26 +138,25 @@ pub line-drawn : (palette lines : List (List ℕ)) (image pixels numbers : List 
 unfolding ppm_of
 line-drawn palette lines image pixels numbers y part three picture below is drawn coloured =
     let f : List ℕ → List ℕ = flat_map (palette_colour palette) in
-    let all = flat_map f lines in
-    let each = picture-pieces palette lines three picture in
     let inside : y < length lines = omega (arith, below, picture.high) in
-    let room : y + 1 ≤ length lines = omega (arith, inside) in
     let next : y + 1 ≡ suc y = omega arith in
-    let piece : pixels ≡ flat_map f (numbers ∷ []) = coloured ∙ sym (append-nil (f numbers)) in
-    let put = put-pieces f 864 [] lines (numbers ∷ []) y 1 each room in
-    let front : take (15 + 864 * y) (header ++ all) ≡ header ++ take (864 * y) all = take-append-add header all (864 * y) in
-    let back : drop (15 + 864 * y) (header ++ all) ≡ drop (864 * y) all = drop-append-add header all (864 * y) in
-    let moved : put_mid (15 + 864 * y) 864 (header ++ all) pixels ≡ header ++ put_mid (864 * y) 864 all pixels = search rules in
-    let written : put_mid (864 * y) 864 all pixels ≡ flat_map f (set lines y numbers) =
-    cc (piece, put, drop-drop 1 y lines, next, set_split lines y numbers inside) in search rules
+    let put = put-pieces f 864 [] lines (numbers ∷ []) y 1 (picture-pieces palette lines three picture) (omega (arith, inside)) in
+    let front = take-append-add header (flat_map f lines) (864 * y) in
+    let back = drop-append-add header (flat_map f lines) (864 * y) in
+    let written : put_mid (864 * y) 864 (flat_map f lines) pixels ≡ flat_map f (set lines y numbers) =
+    cc (coloured, append-nil (f numbers), put, drop-drop 1 y lines, next, set_split lines y numbers inside) in grind (arith, common_steps)
 
 -- a line appended to an image
 pub line-more : (palette lines : List (List ℕ)) (image numbers : List ℕ) (y : ℕ) → y < length lines → numbers ≡ get_or lines y [] →
     image ≡ header ++ flat_map (flat_map (palette_colour palette)) (take y lines) →
     image ++ flat_map (palette_colour palette) numbers ≡ header ++ flat_map (flat_map (palette_colour palette)) (take (y + 1) lines)
 line-more palette lines image numbers y inside read drawn =
-    let f : List ℕ → List ℕ = flat_map (palette_colour palette) in
-    cc (drawn, read, flat_map_more f header (take y lines) (get_or lines y []), take_more lines y [] inside)
+    rw (
+      drawn,
+      read,
+      flat_map_more (flat_map (palette_colour palette)) header (take y lines) (get_or lines y []),
+      take_more lines y [] inside,
+    )
 
 -- a block's pixels appended to those of the blocks before it
 pub part-more : (f : ℕ → List ℕ) (numbers image new start pixels : List ℕ) (count stop : ℕ) → new ≡ image ++ pixels →
@@ -180,12 +164,7 @@ pub part-more : (f : ℕ → List ℕ) (numbers image new start pixels : List �
     new ≡ start ++ flat_map f (take (16 * (count + 1)) numbers)
 part-more f numbers image new start pixels count stop appended is coloured drawn =
     let next : 16 * (count + 1) ≡ 16 * count + 16 = omega arith in
-    let before = take (16 * count) numbers in
-    let block = take 16 (drop (16 * count) numbers) in
-    let apart = append_assoc start (flat_map f before) (flat_map f block) in
-    let both = flat_map-append f before block in
-    let more = take-more (16 * count) 16 numbers in
-    cc (appended, is, coloured, drawn, next, apart, both, more)
+    rw (appended, coloured, is, drawn, next, take-add, flat_map-append, append_assoc)
 
 -- one line more is kept
 pub lines-step : (kept new lines : List (List ℕ)) (numbers : List ℕ) (y : ℕ) → length kept ≡ 224 → y < 224 → new ≡ set kept y numbers →

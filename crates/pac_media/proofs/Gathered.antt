@@ -1,9 +1,9 @@
 -- What a wave file was given in parts, and silence sample by sample.
-use Rattle.pac_media.proofs.Common.{Bool, Counted, Delivers, Err, FinishesSound, Gains, HasStopped, HasTaken, Joins, List, Ok, Refuses}
-use Rattle.pac_media.proofs.Common.{Result, Sound, SoundFails, Stops, StopsAfter, WriteFault, [], ap, append-nil, append_assoc, arith}
-use Rattle.pac_media.proofs.Common.{common_steps, flat_map-append, flat_map_more, if◌then◌else◌, length, pos, replicate}
-use Rattle.pac_media.proofs.Common.{replicate-append-replicate, replicate_more, rules, sample_text, samples_text, stops-after, stops-within}
-use Rattle.pac_media.proofs.Common.{subst, sym, true, ℕ, ◌++◌, ◌+◌, ◌-◌, ◌/◌, ◌<◌, ◌∙◌, ◌≡◌, ◌≤◌}
+use Rattle.pac_media.proofs.Common.{Bool, Counted, Delivers, Err, FinishesSound, Gains, HasStopped, Joins, List, Ok, Refuses, Result, Sound}
+use Rattle.pac_media.proofs.Common.{SoundFails, Stops, StopsAfter, WriteFault, [], append-nil, append_assoc, arith, common_steps}
+use Rattle.pac_media.proofs.Common.{flat_map-append, flat_map_more, if◌then◌else◌, length, pos, replicate, replicate-append-replicate}
+use Rattle.pac_media.proofs.Common.{replicate_more, rules, sample_text, samples_text, stops-after, stops-within, subst, sym, ℕ, ◌++◌, ◌+◌}
+use Rattle.pac_media.proofs.Common.{◌-◌, ◌/◌, ◌<◌, ◌∙◌, ◌≡◌, ◌≤◌}
 
 -- where there is room for a sample, its two bytes fit
 pub room-left : (failed : Bool) (waiting : ℕ) → 0 < (if failed then 0 else (8192 - waiting) / 2) → waiting + 2 ≤ 8192
@@ -23,11 +23,7 @@ in-other-words {took = took} {refused = refused} {start = start} {file = file} s
 module _ {W : Type 0} {took : W → List ℕ → W → Type 0} where
   -- nothing was given
   pub gains-nothing : (wave : Sound W) → Gains took wave [] wave
-  gains-nothing wave = record {
-    at_least = omega arith;
-    after = λ start text has. record { prefix = has.prefix; parts = append-nil text ∙ has.parts; taken = has.taken };
-    further = λ start text has. omega arith;
-  }
+  gains-nothing wave = record { at_least = omega arith; after = grind (arith, common_steps); further = λ start text has. omega arith }
 
   -- some bytes, and then others
   pub gains-joined : {old mid new : Sound W} {one other : List ℕ} → Gains took old one mid → Gains took mid other new
@@ -36,7 +32,7 @@ module _ {W : Type 0} {took : W → List ℕ → W → Type 0} where
       record {
         at_least = let e = first.at_least in let f = second.at_least in omega (arith, e, f);
         after = λ start text has. let later = second.after start (text ++ one) (first.after start text has) in
-            record { prefix = later.prefix; parts = sym (append_assoc text one other) ∙ later.parts; taken = later.taken };
+            record { prefix = later.prefix; parts = rw append_assoc at later.parts; taken = later.taken };
         further = search rules;
       }
 
@@ -45,25 +41,17 @@ module _ {W : Type 0} {took : W → List ℕ → W → Type 0} where
       → record { file = file; waiting = waiting; owed = owed } ≡ before → given ≡ bytes → later ≡ waiting ++ given
       → Gains took before bytes (record { file = file; waiting = later; owed = left })
   gains-waiting {file = file} {waiting = waiting} {later = later} {given = given} {left = left} {before = before} is same kept =
-      subst (λ (bytes : List ℕ). Gains took before bytes (record { file = file; waiting = later; owed = left })) same
-      (subst (λ (sound : Sound W). Gains took sound given (record { file = file; waiting = later; owed = left })) is
-      (record {
-        at_least = omega arith;
-        after = grind (arith, common_steps);
-        further = λ start text has. omega arith;
-      }))
+      rw (← is, ← same) (record { at_least = omega arith; after = grind (arith, common_steps); further = λ start text has. omega arith })
 
   -- how many samples are still to come is another matter
   pub gains-owed : {old new : Sound W} {file : Counted W} {waiting given bytes : List ℕ} {owed left : ℕ}
       → record { file = file; waiting = waiting; owed = owed } ≡ new → given ≡ bytes → Gains took old given new
       → Gains took old bytes (record { file = file; waiting = waiting; owed = left })
   gains-owed {old = old} {file = file} {waiting = waiting} {given = given} {owed = owed} {left = left} is same gains =
-      let held = subst (λ (sound : Sound W). Gains took old given sound) (sym is) gains in
-      subst (λ (bytes : List ℕ). Gains took old bytes (record { file = file; waiting = waiting; owed = left })) same
-      (record {
+      let held = subst (Gains took old given) (sym is) gains in
+      rw (← same) (record {
         at_least = held.at_least;
-        after = λ start text has. let later = held.after start text has in
-            record { prefix = later.prefix; parts = later.parts; taken = later.taken };
+        after = λ start text has. let later = held.after start text has in search rules;
         further = held.further;
       })
 
@@ -78,8 +66,7 @@ module _ {W : Type 0} {took : W → List ℕ → W → Type 0} where
         → Refuses took refused old waiting fault new → Stops took refused old waiting new
         → SoundFails took refused before [] fault (record { file = new; waiting = later; owed = left })
     fails-waiting joined {new = new} {waiting = waiting} {later = later} {left = left} is refuses stops =
-        subst (λ (sound : Sound W). SoundFails took refused sound [] fault (record { file = new; waiting = later; owed = left })) is
-        (record {
+        rw (← is) (record {
           told = refuses.told;
           at_least = refuses.at_least;
           after = λ start text has. in-other-words (sym has.parts ∙ sym (append-nil text))
@@ -92,12 +79,6 @@ module _ {W : Type 0} {took : W → List ℕ → W → Type 0} where
           past = λ start text has. omega arith;
         })
 
-    -- a file that has refused before
-    pub fails-shut : {file : Counted W} {waiting bytes : List ℕ} {owed : ℕ} {before : Sound W}
-        → record { file = file; waiting = waiting; owed = owed } ≡ before → file.failed ≡ true → fault.count ≡ file.count
-        → SoundFails took refused before bytes fault before
-    fails-shut {bytes = bytes} is shut told = search rules
-
   -- a refusal after some bytes, and within more
   pub fails-within : {refused : W → W → Type 0} {old mid new : Sound W} {one other : List ℕ} {fault : WriteFault} → Gains took old one mid
       → SoundFails took refused mid other fault new → (more : List ℕ)
@@ -107,14 +88,9 @@ module _ {W : Type 0} {took : W → List ℕ → W → Type 0} where
         told = second.told;
         at_least = let e = first.at_least in let f = second.at_least in omega (arith, e, f);
         after = λ start text has. let stop = second.after start (text ++ one) (first.after start text has) in
-            in-other-words
-            (append_assoc (text ++ one) other more
-            ∙ (append_assoc text one (other ++ more)
-            ∙ ap (λ all. text ++ all) (sym (append_assoc one other more))))
-            (grind (arith, stops-within));
+            in-other-words {one = ((text ++ one) ++ other) ++ more} (simp append_assoc) (grind (arith, stops-within));
         past = λ start text has. let e = first.further start text has in
-            let f = second.past start (text ++ one) (first.after start text has) in
-            omega (arith, e, f);
+            let f = second.past start (text ++ one) (first.after start text has) in omega (arith, e, f);
       }
 
   -- what was given is written
@@ -124,18 +100,16 @@ module _ {W : Type 0} {took : W → List ℕ → W → Type 0} where
   finishes-after refused (Ok done) new {bytes = bytes} first second =
       record {
         at_least = let e = first.at_least in let f = second.at_least in omega (arith, e, f);
-        after = λ start text has. subst (λ (all : List ℕ). HasTaken took start all new.file) (append-nil (text ++ bytes))
-            (second.after start (text ++ bytes) (first.after start text has));
+        after = λ start text has. rw append-nil at (second.after start (text ++ bytes) (first.after start text has));
         none_waits = second.none_waits;
       }
   finishes-after refused (Err fault) new {old} {bytes = bytes} first second =
-      subst (λ (all : List ℕ). SoundFails took refused old all fault new) (append-nil (bytes ++ []) ∙ append-nil bytes)
-      (fails-within first second [])
+      subst (λ (all : List ℕ). SoundFails took refused old all fault new) (simp append-nil) (fails-within first second [])
 
 -- one sample of silence more
 pub silence-more : (count : ℕ)
     → samples_text (replicate count (pos 0)) ++ sample_text (pos 0) ≡ samples_text (replicate (count + 1) (pos 0))
-silence-more count = flat_map_more sample_text [] (replicate count (pos 0)) (pos 0) ∙ ap samples_text (replicate_more count (pos 0))
+silence-more count = rw (flat_map_more sample_text [], replicate_more)
 
 -- and the rest of it
 pub silence-rest : (count all : ℕ) → count < all
@@ -143,6 +117,4 @@ pub silence-rest : (count all : ℕ) → count < all
     ≡ samples_text (replicate all (pos 0))
 silence-rest count all below =
     let sum : (count + 1) + (all - (count + 1)) ≡ all = omega (arith, below) in
-    ap (λ first. first ++ samples_text (replicate (all - (count + 1)) (pos 0))) (silence-more count)
-    ∙ (sym (flat_map-append sample_text (replicate (count + 1) (pos 0)) (replicate (all - (count + 1)) (pos 0)))
-    ∙ ap samples_text (replicate-append-replicate (count + 1) (all - (count + 1)) (pos 0) ∙ ap (λ n. replicate n (pos 0)) sum))
+    rw (silence-more count, ← flat_map-append sample_text, replicate-append-replicate, sum)

@@ -2,7 +2,7 @@
 use Rattle.pac_media.proofs.Common.{ArePlanes, Each1-from_get_or, List, SwzOk, SwzOk-from_below, [], append_assoc, arith, ext_get_or}
 use Rattle.pac_media.proofs.Common.{flat_map, get_or, get_or-map, get_or-swz_l_below, length, length-map, length-swz_l, map, palette_colour}
 use Rattle.pac_media.proofs.Common.{pick_l_whole, range_with_len, refl, rgb_pixels, slice_index, suc, swz_l, sym, take, take_all, w8, ℕ}
-use Rattle.pac_media.proofs.Common.{◌++◌, ◌+◌, ◌<◌, ◌∙◌, ◌∷◌, ◌≡◌, ◌≤◌}
+use Rattle.pac_media.proofs.Common.{◌++◌, ◌+◌, ◌<◌, ◌∙◌, ◌∷◌, ◌≡◌}
 use lib.Lanes.{pick_l}
 
 -- ---- what is picked
@@ -15,8 +15,8 @@ picks numbers long below =
 pub picked-is : (plane numbers : List ℕ) → length numbers ≡ 16 → ((k : ℕ) → k < 16 → slice_index numbers k < 16)
     → swz_l w8 16 plane 0 numbers ≡ map (λ number. slice_index plane number) numbers
 picked-is plane numbers long below =
-    ext_get_or 0 _ _ (length-swz_l w8 16 plane 0 numbers ∙ sym (length-map numbers (λ number. slice_index plane number))) (λ k inside.
-    grind (arith, get_or-map, get_or-swz_l_below, length-swz_l))
+    ext_get_or 0 _ _ (length-swz_l w8 16 plane 0 numbers ∙ sym (length-map numbers (λ number. slice_index plane number)))
+    (λ k inside. grind (arith, get_or-map, get_or-swz_l_below, length-swz_l))
 
 -- ---- what is woven: red and green lane by lane, in halves, and blue between them
 
@@ -67,4 +67,4 @@ pub three-parts : (old one two three a b c : List ℕ) → take (0 + 16) one ≡
     → take (16 + 16) two ≡ take 16 one ++ b → take (32 + 16) three ≡ take 32 two ++ c → length three ≡ 48
     → three ≡ a ++ (b ++ c)
 three-parts old one two three a b c first second third long =
-    let whole : length three ≤ 48 = omega (arith, long) in cc (take_all 48 three whole, third, second, first, append_assoc a b c)
+    rw (← take_all 48 three (omega (arith, long)), third, second, first) (append_assoc a b c)

@@ -1,11 +1,11 @@
 -- Sixteen numbers of a sprite at once: painted over others, flipped, and placed where its whole box shows.
-use Rattle.pac_picture.proofs.Common.{Bool, List, Sprite, [], ap, arith, box_place, cases_Bool, cases_lt, cond, drop, false, flipped_place}
-use Rattle.pac_picture.proofs.Common.{get_or, get_or-before-put_mid, get_or-chunk, get_or-drop, get_or-in-put_mid, get_or-put_chunk_above}
+use Rattle.pac_picture.proofs.Common.{Bool, List, Sprite, [], arith, box_place, cases_lt, cond, drop, false, flipped_place, get_or}
+use Rattle.pac_picture.proofs.Common.{get_or-before-put_mid, get_or-chunk, get_or-drop, get_or-in-put_mid, get_or-put_chunk_above}
 use Rattle.pac_picture.proofs.Common.{get_or-put_chunk_at, get_or-replicate, get_or-sel_l, get_or-take, get_or-zip2, get_or_append_left}
 use Rattle.pac_picture.proofs.Common.{if◌then◌else◌, ints, is_column_of, length, length-drop, length-put_chunk, length-replicate}
 use Rattle.pac_picture.proofs.Common.{length-take-le, length-zip2, map, nat_le, nat_lt, nat_tests, not, over_line, painted_number, pos}
-use Rattle.pac_picture.proofs.Common.{refl, replicate, sym, tabulate, tops_compared, true, ℕ, ℤ, ◌&&◌, ◌++◌, ◌+ℤ◌, ◌+◌, ◌-◌, ◌<◌, ◌∙◌, ◌∷◌}
-use Rattle.pac_picture.proofs.Common.{◌≡◌, ◌≤ℤ◌, ◌≤◌}
+use Rattle.pac_picture.proofs.Common.{refl, replicate, sym, tabulate, tops_compared, ℕ, ℤ, ◌&&◌, ◌++◌, ◌+ℤ◌, ◌+◌, ◌-◌, ◌<◌, ◌∙◌, ◌∷◌, ◌≡◌}
+use Rattle.pac_picture.proofs.Common.{◌≤ℤ◌, ◌≤◌}
 use mathlib.Core.Logic.{inl, inr}
 use lib.Lanes.{zip2, sel_l, top, pick_l, chunk, put_chunk}
 use lib.Dec.{eqb}
@@ -16,8 +16,7 @@ use Rattle.pac_picture.proofs.Strips.{picked-at}
 -- ---- numbers painted over others
 
 choice : (test : Bool) (number below : ℕ) → cond test below number ≡ (if not test then number else below)
-choice true number below = refl
-choice false number below = refl
+choice test number below = grind arith
 
 pub blended-at : (numbers below : List ℕ) (k : ℕ) → length numbers ≡ 16 → length below ≡ 16 → k < 16 →
     get_or (sel_l (map (top 7) (zip2 (λ a b. cond (eqb a b) 255 0) numbers (replicate 16 0))) below numbers) k 0
@@ -25,19 +24,16 @@ pub blended-at : (numbers below : List ℕ) (k : ℕ) → length numbers ≡ 16 
 blended-at numbers below k long long_below inside =
     let zeros : List ℕ = replicate 16 0 in
     let long_zeros : length zeros ≡ 16 = length-replicate {A = ℕ} 16 0 in
-    let tests : List Bool = zip2 eqb numbers zeros in
-    let long_tests : length tests ≡ 16 = length-zip2 eqb numbers zeros (long ∙ sym long_zeros) ∙ long in
+    let long_tests : length (zip2 eqb numbers zeros) ≡ 16 = length-zip2 eqb numbers zeros (long ∙ sym long_zeros) ∙ long in
     let in_numbers : k < length numbers = omega (arith, long, inside) in
-    let in_below : k < length below = omega (arith, long_below, inside) in
-    let in_zeros : k < length zeros = omega (arith, long_zeros, inside) in
-    let in_tests : k < length tests = omega (arith, long_tests, inside) in
-    let test : get_or tests k false ≡ eqb (get_or numbers k 0) 0 =
-    get_or-zip2 eqb numbers zeros k 0 0 false in_numbers in_zeros
-    ∙ ap (eqb (get_or numbers k 0)) (get_or-replicate {A = ℕ} 16 k 0 0 inside) in
-    ap (λ (tests : List Bool). get_or (sel_l tests below numbers) k 0) (tops_compared w8 eqb numbers zeros)
-    ∙ (get_or-sel_l tests below numbers k 0 in_tests in_below in_numbers
-    ∙ (ap (λ (t : Bool). cond t (get_or below k 0) (get_or numbers k 0)) test
-    ∙ choice (eqb (get_or numbers k 0) 0) (get_or numbers k 0) (get_or below k 0)))
+    rw (
+      tops_compared w8 eqb numbers zeros,
+      get_or-sel_l (zip2 eqb numbers zeros) below numbers k 0 (omega (arith, long_tests, inside)) (omega (arith, long_below, inside))
+          in_numbers,
+      get_or-zip2 eqb numbers zeros k 0 0 false in_numbers (omega (arith, long_zeros, inside)),
+      get_or-replicate {A = ℕ} 16 k 0 0 inside,
+    )
+    (choice (eqb (get_or numbers k 0) 0) (get_or numbers k 0) (get_or below k 0))
 
 -- ---- flipped numbers
 
@@ -55,7 +51,7 @@ flipped-at line k long below =
 -- ---- the columns of a box that shows whole
 
 rest-long : (line : List ℕ) (start : ℕ) → length line ≡ 288 → length (mid_of start (288 - start) line) ≡ 288 - start
-rest-long line start long = length-take-le (288 - start) (drop start line) (rw (length-drop start line) (omega (arith, long)))
+rest-long line start long = grind (arith, length-take-le, length-drop)
 
 rest-at : (line : List ℕ) (start k : ℕ) → k < 288 - start → get_or (mid_of start (288 - start) line) k 0 ≡ get_or line (start + k) 0
 rest-at line start k inside = get_or-take (288 - start) (drop start line) k 0 inside ∙ get_or-drop start line k 0
@@ -65,7 +61,7 @@ pub piece-read : (line : List ℕ) (start k : ℕ) → start ≤ 272 → k < 16 
     get_or (chunk 0 16 (mid_of start (288 - start) line)) k 0 ≡ get_or line (start + k) 0
 piece-read line start k inside below =
     let place : 0 + k ≡ k = omega arith in
-    (rw place at (get_or-chunk 0 16 (mid_of start (288 - start) line) k 0 below)) ∙ rest-at line start k (omega (arith, inside, below))
+    rw (get_or-chunk 0 16 (mid_of start (288 - start) line) k 0 below, place) (rest-at line start k (omega (arith, inside, below)))
 
 pub piece-put : (line piece : List ℕ) (start x : ℕ) → length line ≡ 288 → length piece ≡ 16 → start ≤ 272 → x < 288 →
     get_or (put_mid start (288 - start) line (put_chunk 0 (mid_of start (288 - start) line) piece)) x 0
@@ -73,32 +69,18 @@ pub piece-put : (line piece : List ℕ) (start x : ℕ) → length line ≡ 288 
 piece-put line piece start x long sixteen inside across =
     let rest : List ℕ = mid_of start (288 - start) line in
     let room : start ≤ length line = omega (arith, long, inside) in
-    let whole : length (put_chunk 0 rest piece) ≡ 288 - start = length-put_chunk 0 rest piece ∙ rest-long line start long in
+    let wide = rest-long line start long in
+    let whole : length (put_chunk 0 rest piece) ≡ 288 - start = length-put_chunk 0 rest piece ∙ wide in
     elim (cases_lt x start) [
-      | inl before ↦
-          let test : nat_le start x ≡ false = grind (arith, nat_tests, before) in
-          rw test (get_or-before-put_mid start (288 - start) line (put_chunk 0 rest piece) x before room)
+      | inl before ↦ rw (get_or-before-put_mid start (288 - start) line (put_chunk 0 rest piece) x before room) (grind (arith, nat_tests))
       | inr past ↦
-          let first : nat_le start x ≡ true = grind (arith, nat_tests, past) in
-          let place : start + (x - start) ≡ x = omega (arith, past) in
-          let within : get_or (put_mid start (288 - start) line (put_chunk 0 rest piece)) x 0
-          ≡ get_or (put_chunk 0 rest piece) (x - start) 0 =
-          ap (λ n. get_or (put_mid start (288 - start) line (put_chunk 0 rest piece)) n 0) (sym place)
-          ∙ get_or-in-put_mid start (288 - start) line (put_chunk 0 rest piece) (x - start) (omega (arith, past, across)) room whole in
-          elim (cases_lt x (start + 16)) [
-            | inl near ↦
-                let last : nat_lt x (start + 16) ≡ true = grind (arith, nat_tests, near) in
-                let lane : x - start < length piece = omega (arith, sixteen, past, near) in
-                let fits : 0 + length piece ≤ length rest = omega (arith, sixteen, rest-long line start long, inside) in
-                let zero : 0 + (x - start) ≡ x - start = omega arith in
-                rw (first, last) (within ∙ (rw zero at (get_or-put_chunk_at 0 rest piece (x - start) 0 lane fits)))
-            | inr over ↦
-                let last : nat_lt x (start + 16) ≡ false = grind (arith, nat_tests, over) in
-                let above : 0 + length piece ≤ x - start = omega (arith, sixteen, over) in
-                rw (first, last)
-                (within ∙ get_or-put_chunk_above 0 rest piece (x - start) 0 above
-                ∙ (rest-at line start (x - start) (omega (arith, past, across)) ∙ ap (λ n. get_or line n 0) place))
-          ]
+          let place : x ≡ start + (x - start) = omega (arith, past) in
+          let put = get_or-in-put_mid start (288 - start) line (put_chunk 0 rest piece) (x - start) (omega (arith, past, across)) room
+          whole in
+          let lane = get_or-put_chunk_at 0 rest piece (x - start) 0 in
+          let above = get_or-put_chunk_above 0 rest piece (x - start) 0 in
+          let under = rest-at line start (x - start) (omega (arith, past, across)) in
+          elim (cases_lt x (start + 16)) [ inl near ↦ grind (arith, nat_tests, lane) | inr over ↦ grind (arith, nat_tests, above) ]
     ]
 
 place-in : (left : ℤ) (start x : ℕ) → left ≤ℤ pos start → pos (start + 16) ≤ℤ (left +ℤ pos 16) → start ≤ x → box_place left x ≡ x - start
@@ -112,15 +94,4 @@ pub box-painted : (line shown old next : List ℕ) (sprite : Sprite) (start x : 
     then painted_number (get_or shown (x - start) 0) (get_or old x 0) else get_or old x 0) →
     get_or next x 0 ≡ over_line line sprite x (get_or old x 0)
 unfolding over_line
-box-painted line shown old next sprite start x column from until is_shown painted =
-    painted
-    ∙ elim (cases_Bool (nat_le start x && nat_lt x (start + 16))) [
-      | inl within ↦
-          let past : start ≤ x = grind (arith, nat_tests, within) in
-          let near : x - start < 16 = grind (arith, nat_tests, within) in
-          let shows : is_column_of sprite x ≡ true = column ∙ within in
-          rw (within, shows, place-in sprite.left start x from until past, is_shown (x - start) near) refl
-      | inr outside ↦
-          let hides : is_column_of sprite x ≡ false = column ∙ outside in
-          rw (outside, hides) refl
-    ]
+box-painted line shown old next sprite start x column from until is_shown painted = grind (arith, nat_tests, is_shown, place-in)

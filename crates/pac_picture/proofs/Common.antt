@@ -1,8 +1,8 @@
 -- The words that proofs here, and those of crates above, import of definitions, of std and of the crates below.
 
-pub use Rattle.pac_sprites.proofs.Common.{arith, box_place, covers_of, flipped_place, ints, is_column_of, is_in_box, length, nat_le, nat_lt}
-pub use Rattle.pac_sprites.proofs.Common.{nat_tests, pixel_byte_index, pixel_value-below, pos, rules, set-one-more, slice_index, sprite_of}
-pub use Rattle.pac_sprites.proofs.Common.{sprite_pixel, ℕ, ℤ, ◌&&◌, ◌+ℤ◌, ◌<◌, ◌≡◌, ◌≤◌}
+pub use Rattle.pac_sprites.proofs.Common.{arith, box_place, flipped_place, ints, is_column_of, is_in_box, length, nat_le, nat_lt, nat_tests}
+pub use Rattle.pac_sprites.proofs.Common.{pixel_byte_index, pixel_value-below, pos, rules, set-one-more, slice_index, sprite_of, ℕ, ℤ, ◌&&◌}
+pub use Rattle.pac_sprites.proofs.Common.{◌+ℤ◌, ◌<◌, ◌≡◌, ◌≤◌}
 pub use Rattle.pac_colour.specs.Colours.{rgb_of}
 pub use Rattle.pac_lemmas.proofs.Lists.{get_or-before-put_mid, get_or-in-put_mid, get_or-replicate-all}
 pub use Rattle.pac_num.proofs.Tabulated.{get_or-tabulate, length-tabulate, tabulate-is, tabulate-same}
@@ -34,15 +34,14 @@ pub use Rattle.pac_picture.specs.declared.clean.SpriteBytes.{SpriteBytes}
 pub use Rattle.pac_picture.specs.declared.layer.Strip.{Strip}
 pub use Rattle.pac_picture.specs.declared.shadow.Shadow.{Shadow}
 pub use Rattle.pac_sprites.specs.declared.Sprite.{Sprite}
-pub use Rattle.pac_tiles.specs.Tiles.{offset_of, tile_pixel}
+pub use Rattle.pac_tiles.specs.Tiles.{offset_of}
 pub use Rattle.std.proofs.Common.{Bool, List, None, Some, [], add-one, ap, below_more, bit_and, bit_or, cond, drop, false, get_or}
 pub use Rattle.std.proofs.Common.{get_or-set_other, get_or-set_same, if◌then◌else◌, length-append, length-set, map, not, refl, replicate}
 pub use Rattle.std.proofs.Common.{set, subst, suc, sym, true, w8, zero, ◌%◌, ◌*◌, ◌++◌, ◌+◌, ◌-ℤ◌, ◌-◌, ◌/◌, ◌==◌, ◌^◌, ◌||◌, ◌↔◌, ◌∙◌, ◌∷◌}
 pub use Rattle.std.proofs.Common.{◌≢◌, ◌≤ℤ◌}
 pub use Rattle.std.proofs.Math.ListN.{get_or-eq_default}
 pub use Rattle.std.proofs.Math.Nat.{zero-div}
-pub use Rattle.std.proofs.lemmas.Bool.{and_parts, cases_Bool, cases_eq, cases_lt, eq-eqb, eqb-true, le-ltb, lt-ltb, ltb-false, ltb-true}
-pub use Rattle.std.proofs.lemmas.Bool.{ne_eqb, true≢false}
+pub use Rattle.std.proofs.lemmas.Bool.{and_parts, cases_eq, cases_lt, eqb-true, lt-ltb, ltb-true, true≢false}
 pub use Rattle.std.proofs.lemmas.Grind.{common_steps, get_or-set_at, same_number_lists}
 pub use Rattle.std.proofs.lemmas.List.{get_or-append-add, get_or-append_right, get_or-drop, get_or-map, get_or-replicate, get_or-reverse}
 pub use Rattle.std.proofs.lemmas.List.{get_or-take, get_or_append_left, get_or_default, get_or_past, length-drop, length-map}

@@ -1,7 +1,7 @@
 -- Numbers that are copied, and the bits that any of them has, sixteen at a time.
-use Rattle.pac_picture.proofs.Common.{AreColourNumbers, List, arith, bit_or, cases_lt, drop, get_or, get_or-chunk, get_or-zip2}
-use Rattle.pac_picture.proofs.Common.{get_or_past, le_or_l, le_or_r, length, length-drop, length-take-le, length-zip2, or_lt, sym, take}
-use Rattle.pac_picture.proofs.Common.{ℕ, ◌+◌, ◌-◌, ◌<◌, ◌↔◌, ◌∙◌, ◌≡◌, ◌≤◌}
+use Rattle.pac_picture.proofs.Common.{AreColourNumbers, List, arith, bit_or, cases_lt, drop, get_or, get_or-chunk, get_or-zip2, get_or_past}
+use Rattle.pac_picture.proofs.Common.{le_or_l, le_or_r, length, length-drop, length-take-le, length-zip2, or_lt, sym, take, ℕ, ◌+◌, ◌-◌}
+use Rattle.pac_picture.proofs.Common.{◌<◌, ◌↔◌, ◌∙◌, ◌≡◌, ◌≤◌}
 use mathlib.Core.Logic.{inl, inr}
 use lib.Lanes.{zip2}
 

@@ -1,10 +1,9 @@
 -- The layer, row by row.
 use Rattle.pac_picture.proofs.Common.{IsDrawn, IsLayer, LayerState, List, Shadow, Strip, VideoMemory, VideoRoms, add-one, ap, arith}
 use Rattle.pac_picture.proofs.Common.{cells_of, differing_in, drawn_from, get_or-map, get_or-set_other, get_or-set_same, get_or-tabulate}
-use Rattle.pac_picture.proofs.Common.{get_or_default, kept_dot, length, length-map, length-tabulate, made_stale, map, no_shadow}
-use Rattle.pac_picture.proofs.Common.{offset_of, refl, row_dot, same_lists, set, set-one-more, shadow_at, slice_index, stale_row}
-use Rattle.pac_picture.proofs.Common.{stale_rows, suc, sum, sum_by_push, sym, tabulate, tabulate-is, tabulate-same, tile_dot, true, ℕ}
-use Rattle.pac_picture.proofs.Common.{◌%◌, ◌+◌, ◌/◌, ◌<◌, ◌∙◌, ◌≡◌, ◌≢◌, ◌≤◌}
+use Rattle.pac_picture.proofs.Common.{get_or_default, kept_dot, length, length-map, length-tabulate, made_stale, map, no_shadow, refl}
+use Rattle.pac_picture.proofs.Common.{row_dot, same_lists, set, set-one-more, shadow_at, stale_row, stale_rows, suc, sum, sum_by_push, sym}
+use Rattle.pac_picture.proofs.Common.{tabulate, tabulate-is, tabulate-same, tile_dot, true, ℕ, ◌%◌, ◌+◌, ◌/◌, ◌<◌, ◌∙◌, ◌≡◌, ◌≤◌}
 
 -- one row more that is stale
 pub made-step : (old now : List Shadow) (index : ℕ) → index < length now →
@@ -19,17 +18,14 @@ pub made-rest : (old now : List Shadow) (index : ℕ) (next : Shadow) →
     ((k : ℕ) → index ≤ k → shadow_at now k ≡ shadow_at old k) →
     (k : ℕ) → index + 1 ≤ k → shadow_at (set now index next) k ≡ shadow_at old k
 made-rest old now index next rest k past =
-    let apart : k ≢ index = omega (arith, past) in
-    get_or-set_other now index k next no_shadow apart ∙ rest k (omega (arith, past))
+    rw (get_or-set_other now index k next no_shadow (omega (arith, past))) (rest k (omega (arith, past)))
 
 -- all rows
 pub made-end : (old now : List Shadow) → length now ≡ length old →
     ((k : ℕ) → k < length now → shadow_at now k ≡ made_stale (shadow_at old k)) → now ≡ map made_stale old
 made-end old now long made =
     same_lists now (map made_stale old) (long ∙ sym (length-map old made_stale))
-    (λ k d inside.
-    let within : k < length old = omega (arith, inside, long) in
-    get_or_default now k d no_shadow inside ∙ (made k inside ∙ sym (get_or-map made_stale old k no_shadow d within)))
+    (λ k d inside. grind (arith, get_or_default, made, get_or-map))
 
 -- shadows of rows that were never drawn
 pub stale-at : (row : ℕ) → row < 28 → shadow_at stale_rows row ≡ stale_row
@@ -50,20 +46,13 @@ pub line-kept : (roms : VideoRoms) (shadow : Shadow) (strip : List (List (List �
 unfolding kept_dot
 line-kept roms shadow strip y drawn fresh =
     tabulate-same 288 _ _ (λ x across.
-    let down : y % 8 < 8 = omega arith in
-    let same : (y % 8) % 8 ≡ y % 8 = omega arith in
-    rw same at (drawn fresh x (y % 8) across down))
+    let same : (y % 8) % 8 ≡ y % 8 = omega arith in rw same at (drawn fresh x (y % 8) across (omega arith)))
 
 -- of a row that was drawn from memory
 pub dot-drawn : (roms : VideoRoms) (memory : VideoMemory) (x y : ℕ) → x < 288 →
     kept_dot roms (drawn_from memory (y / 8)) x y ≡ tile_dot roms memory x y
 unfolding kept_dot tile_dot cells_of
-dot-drawn roms memory x y across =
-    let column : x / 8 < 36 = omega (arith, across) in
-    rw (
-      get_or-tabulate 36 (λ (column : ℕ). slice_index memory.colour_ram (offset_of column (y / 8))) (x / 8) 0 column,
-      get_or-tabulate 36 (λ (column : ℕ). slice_index memory.tile_ram (offset_of column (y / 8))) (x / 8) 0 column,
-    ) refl
+dot-drawn roms memory x y across = grind (arith, get_or-tabulate)
 
 -- one row more that is drawn
 pub row-step : (memory : VideoMemory) (now : List Shadow) (row : ℕ) → row < length now →
@@ -83,8 +72,7 @@ pub sum-step : (old now : List Shadow) (memory : VideoMemory) (row so_far one : 
     so_far ≡ sum (tabulate row (differing_in old memory)) → one ≡ differing_in now memory row → shadow_at now row ≡ shadow_at old row →
     so_far + one ≡ sum (tabulate (row + 1) (differing_in old memory))
 sum-step old now memory row so_far one is more same =
-    let here : one ≡ differing_in old memory row = rw same at more in
-    rw (add-one, sum-more (differing_in old memory) row, is, here) refl
+    rw (add-one, sum-more (differing_in old memory) row, is, rw same at more)
 
 pub drawn-all : (memory : VideoMemory) (shadows : List Shadow) → length shadows ≡ 28 →
     ((k : ℕ) → k < 28 → shadow_at shadows k ≡ drawn_from memory k) → shadows ≡ tabulate 28 (drawn_from memory)
@@ -96,9 +84,7 @@ all-at memory shadows row is below = rw is (get_or-tabulate 28 (drawn_from memor
 
 pub shadow-set : (shadows : List Shadow) (row : ℕ) (next : Shadow) → length shadows ≡ 28 → row < 28 → shadow_at
     (set shadows row next) row ≡ next
-shadow-set shadows row next high below =
-    let room : row < length shadows = omega (arith, high, below) in
-    get_or-set_same shadows row next no_shadow room
+shadow-set shadows row next high below = get_or-set_same shadows row next no_shadow (omega (arith, high, below))
 
 pub layer-is : (layer : LayerState) (roms : VideoRoms) (shadows : List Shadow) → layer.roms ≡ roms → layer.shadows ≡ shadows →
     layer ≡ record { roms = roms; shadows = shadows }

@@ -1,6 +1,6 @@
 -- Sprites painted one over another.
-use Rattle.pac_picture.proofs.Common.{Bool, List, [], add-one, ap, arith, false, find, if◌then◌else◌, is_opaque, painted_number, refl, suc}
-use Rattle.pac_picture.proofs.Common.{sym, tabulate, true, unwrap_or, zero, ℕ, ◌+◌, ◌-◌, ◌<◌, ◌∙◌, ◌∷◌, ◌≡◌}
+use Rattle.pac_picture.proofs.Common.{Bool, List, [], add-one, arith, find, if◌then◌else◌, is_opaque, painted_number, refl, suc, sym}
+use Rattle.pac_picture.proofs.Common.{tabulate, unwrap_or, zero, ℕ, ◌+◌, ◌-◌, ◌<◌, ◌∙◌, ◌∷◌, ◌≡◌}
 use Rattle.std.specs.Prelude.{Some}
 
 -- the last of eight numbers painted first, this many of them
@@ -25,15 +25,12 @@ over_all (number ∷ rest) below = painted_number number (over_all rest below)
 first : (opaque : Bool) (number : ℕ) (rest : List ℕ) (below : ℕ) →
     unwrap_or (if opaque then Some number else find is_opaque rest) below
     ≡ (if opaque then number else unwrap_or (find is_opaque rest) below)
-first true number rest below = refl
-first false number rest below = refl
+first opaque number rest below = grind arith
 
 find-over : (numbers : List ℕ) (below : ℕ) → unwrap_or (find is_opaque numbers) below ≡ over_all numbers below
 unfolding over_all
 find-over [] below = refl
-find-over (number ∷ rest) below =
-    first (is_opaque number) number rest below
-    ∙ ap (λ (under : ℕ). if is_opaque number then number else under) (find-over rest below)
+find-over (number ∷ rest) below = rw (first (is_opaque number) number rest below, find-over rest below)
 
 -- the first of all eight
 pub painted-first : (numbers : ℕ → ℕ) (below : ℕ) → painted 8 numbers below ≡ unwrap_or (find is_opaque (tabulate 8 numbers)) below
@@ -46,7 +43,7 @@ unpainted : (count : ℕ) (numbers : ℕ → ℕ) (below : ℕ) → ((k under : 
 unfolding painted
 unpainted zero numbers below clear = refl
 unpainted (suc count) numbers below clear =
-    sym (clear (7 - count) (painted count numbers below) (omega arith)) ∙ unpainted count numbers below clear
+    rw (← clear (7 - count) (painted count numbers below) (omega arith)) (unpainted count numbers below clear)
 
 pub none-painted : (numbers : ℕ → ℕ) (below : ℕ) → ((k under : ℕ) → k < 8 → under ≡ painted_number (numbers k) under) →
     below ≡ unwrap_or (find is_opaque (tabulate 8 numbers)) below

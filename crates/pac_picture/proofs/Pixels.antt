@@ -1,9 +1,9 @@
 -- The pixels of bytes, lane by lane.
-use Rattle.pac_picture.proofs.Common.{AreNumbersOf, Bool, List, and_mask, and_pow, ap, arith, bit_and, bit_at, bit_at-lt, cond, drop, false}
-use Rattle.pac_picture.proofs.Common.{get_or, get_or-chunk, get_or-drop, get_or-replicate, get_or-sel_l, get_or-tabulate, get_or-take}
-use Rattle.pac_picture.proofs.Common.{get_or-zip2, if◌then◌else◌, length, length-chunk, length-drop, length-replicate, length-sel_l}
-use Rattle.pac_picture.proofs.Common.{length-tabulate, length-take-le, length-zip2, map, nat_lt, nat_tests, pixel_value, replicate, suc}
-use Rattle.pac_picture.proofs.Common.{sym, tabulate, tops_compared, zero, ℕ, ◌%◌, ◌*◌, ◌+◌, ◌-◌, ◌/◌, ◌<◌, ◌^◌, ◌∙◌, ◌≡◌, ◌≤◌}
+use Rattle.pac_picture.proofs.Common.{AreNumbersOf, List, and_mask, and_pow, arith, bit_and, bit_at, bit_at-lt, cond, drop, get_or}
+use Rattle.pac_picture.proofs.Common.{get_or-chunk, get_or-drop, get_or-replicate, get_or-sel_l, get_or-tabulate, get_or-take, get_or-zip2}
+use Rattle.pac_picture.proofs.Common.{if◌then◌else◌, length, length-chunk, length-drop, length-replicate, length-sel_l, length-tabulate}
+use Rattle.pac_picture.proofs.Common.{length-take-le, length-zip2, map, nat_lt, nat_tests, pixel_value, replicate, suc, sym, tabulate}
+use Rattle.pac_picture.proofs.Common.{tops_compared, zero, ℕ, ◌%◌, ◌*◌, ◌+◌, ◌-◌, ◌/◌, ◌<◌, ◌^◌, ◌∙◌, ◌≡◌, ◌≤◌}
 use lib.Lanes.{chunk, zip2, sel_l, top}
 use borrow.Rule.Slice.PartMut.{mid_of}
 use lib.Dec.{ltb}
@@ -19,22 +19,14 @@ module _ (xs most : List ℕ) (long : length xs ≡ 16) (long_most : length most
   tests-long = length-zip2 ltb xs most (long ∙ sym long_most) ∙ long
 
   capped-is : capped xs most ≡ sel_l (zip2 ltb xs most) xs most
-  capped-is = ap (λ (tests : List Bool). sel_l tests xs most) (tops_compared w8 ltb xs most)
+  capped-is = rw (tops_compared w8 ltb xs most)
 
   capped-at : (k : ℕ) → k < 16 →
       get_or (capped xs most) k 0 ≡ cond (ltb (get_or xs k 0) (get_or most k 0)) (get_or xs k 0) (get_or most k 0)
-  capped-at k below =
-      let one : k < length xs = omega (arith, long, below) in
-      let two : k < length most = omega (arith, long_most, below) in
-      let three : k < length (zip2 ltb xs most) = omega (arith, tests-long, below) in
-      ap (λ (lanes : List ℕ). get_or lanes k 0) capped-is
-      ∙ (get_or-sel_l (zip2 ltb xs most) xs most k 0 three one two
-      ∙ ap (λ (test : Bool). cond test (get_or xs k 0) (get_or most k 0)) (get_or-zip2 ltb xs most k 0 0 false one two))
+  capped-at k below = rw capped-is (grind (arith, get_or-sel_l, get_or-zip2, tests-long))
 
   capped-long : length (capped xs most) ≡ 16
-  capped-long =
-      ap length capped-is
-      ∙ (length-sel_l (zip2 ltb xs most) xs most (tests-long ∙ sym long) (tests-long ∙ sym long_most) ∙ tests-long)
+  capped-long = rw (capped-is, length-sel_l (zip2 ltb xs most) xs most (tests-long ∙ sym long) (tests-long ∙ sym long_most), tests-long)
 
 by-bit : (bit power most : ℕ) → bit < 2 → 0 < most → most ≤ power →
     cond (ltb (bit * power) most) (bit * power) most ≡ most * bit
@@ -52,38 +44,34 @@ weighed byte place most some enough =
 abbrev bits_of : List ℕ → (ℕ → ℕ) → ℕ → List ℕ
 bits_of bytes place most = capped (zip2 bit_and bytes (tabulate 16 (λ k. 2 ^ place k))) (replicate 16 most)
 
+-- the bits of sixteen bytes
+masked-long : (bytes : List ℕ) (place : ℕ → ℕ) → length bytes ≡ 16 → length (zip2 bit_and bytes (tabulate 16 (λ k. 2 ^ place k))) ≡ 16
+masked-long bytes place long =
+    length-zip2 bit_and bytes (tabulate 16 (λ k. 2 ^ place k)) (long ∙ sym (length-tabulate 16 (λ k. 2 ^ place k))) ∙ long
+
 bit-at : (bytes : List ℕ) (place : ℕ → ℕ) (most k : ℕ) → length bytes ≡ 16 → 0 < most → most ≤ 2 ^ place k → k < 16 →
     get_or (bits_of bytes place most) k 0 ≡ most * (get_or bytes k 0 / 2 ^ place k % 2)
 bit-at bytes place most k long some enough below =
-    let powers : List ℕ = tabulate 16 (λ k. 2 ^ place k) in
-    let long_powers : length powers ≡ 16 = length-tabulate 16 (λ k. 2 ^ place k) in
-    let masked : List ℕ = zip2 bit_and bytes powers in
-    let long_masked : length masked ≡ 16 = length-zip2 bit_and bytes powers (long ∙ sym long_powers) ∙ long in
-    let long_most : length (replicate {A = ℕ} 16 most) ≡ 16 = length-replicate {A = ℕ} 16 most in
-    let inside : k < length bytes = omega (arith, long, below) in
-    let in_powers : k < length powers = omega (arith, long_powers, below) in
-    let here : get_or masked k 0 ≡ bit_and (get_or bytes k 0) (2 ^ place k) =
-    get_or-zip2 bit_and bytes powers k 0 0 0 inside in_powers
-    ∙ ap (bit_and (get_or bytes k 0)) (get_or-tabulate 16 (λ k. 2 ^ place k) k 0 below) in
+    let in_powers : k < length (tabulate 16 (λ k. 2 ^ place k)) = rw length-tabulate below in
     let weight : get_or (replicate {A = ℕ} 16 most) k 0 ≡ most = get_or-replicate {A = ℕ} 16 k most 0 below in
-    capped-at masked (replicate {A = ℕ} 16 most) long_masked long_most k below
-    ∙ rw (here, weight) (weighed (get_or bytes k 0) (place k) most some enough)
+    capped-at _ (replicate {A = ℕ} 16 most) (masked-long bytes place long) (length-replicate {A = ℕ} 16 most) k below
+    ∙ rw (
+      get_or-zip2 bit_and bytes (tabulate 16 (λ k. 2 ^ place k)) k 0 0 0 (omega (arith, long, below)) in_powers,
+      get_or-tabulate 16 (λ k. 2 ^ place k) k 0 below,
+      weight,
+    ) (weighed (get_or bytes k 0) (place k) most some enough)
 
 bits-long : (bytes : List ℕ) (place : ℕ → ℕ) (most : ℕ) → length bytes ≡ 16 → length (bits_of bytes place most) ≡ 16
 bits-long bytes place most long =
-    let powers : List ℕ = tabulate 16 (λ k. 2 ^ place k) in
-    let long_powers : length powers ≡ 16 = length-tabulate 16 (λ k. 2 ^ place k) in
-    let masked : List ℕ = zip2 bit_and bytes powers in
-    let long_masked : length masked ≡ 16 = length-zip2 bit_and bytes powers (long ∙ sym long_powers) ∙ long in
-    capped-long masked (replicate {A = ℕ} 16 most) long_masked (length-replicate {A = ℕ} 16 most)
+    capped-long _ (replicate {A = ℕ} 16 most) (masked-long bytes place long) (length-replicate {A = ℕ} 16 most)
 
 one-fits : (place : ℕ) → 1 ≤ 2 ^ place
 one-fits zero = omega arith
 one-fits (suc place) = let before = one-fits place in omega (arith, before)
 
 two-fits : (place : ℕ) → 0 < place → 2 ≤ 2 ^ place
-two-fits zero some = absurd (omega (arith, some))
 two-fits (suc place) some = let before = one-fits place in omega (arith, before)
+two-fits zero some = absurd (omega (arith, some))
 
 -- ---- the pixels of bytes
 
@@ -91,15 +79,11 @@ pub value-at : (bytes : List ℕ) (k : ℕ) → length bytes ≡ 16 → k < 16 �
     get_or (zip2 (λ a b. (a + b) % 256) (bits_of bytes (λ k. 7 - k % 4) 2) (bits_of bytes (λ k. 3 - k % 4) 1)) k 0
     ≡ pixel_value (get_or bytes k 0) k
 value-at bytes k long below =
-    let twos : List ℕ = bits_of bytes (λ k. 7 - k % 4) 2 in
-    let ones : List ℕ = bits_of bytes (λ k. 3 - k % 4) 1 in
-    let in_twos : k < length twos = omega (arith, bits-long bytes (λ k. 7 - k % 4) 2 long, below) in
-    let in_ones : k < length ones = omega (arith, bits-long bytes (λ k. 3 - k % 4) 1 long, below) in
     let two = bit-at bytes (λ k. 7 - k % 4) 2 k long (omega arith) (two-fits (7 - k % 4) (omega arith)) below in
     let one = bit-at bytes (λ k. 3 - k % 4) 1 k long (omega arith) (one-fits (3 - k % 4)) below in
-    let small : get_or bytes k 0 / 2 ^ (7 - k % 4) % 2 < 2 = omega arith in
-    let too_small : get_or bytes k 0 / 2 ^ (3 - k % 4) % 2 < 2 = omega arith in
-    get_or-zip2 (λ a b. (a + b) % 256) twos ones k 0 0 0 in_twos in_ones ∙ rw (two, one) (omega (arith, small, too_small))
+    get_or-zip2 (λ a b. (a + b) % 256) (bits_of bytes (λ k. 7 - k % 4) 2) (bits_of bytes (λ k. 3 - k % 4) 1) k 0 0 0
+    (omega (arith, bits-long bytes (λ k. 7 - k % 4) 2 long, below)) (omega (arith, bits-long bytes (λ k. 3 - k % 4) 1 long, below))
+    ∙ rw (two, one) (omega arith)
 
 -- ---- the places of a pair of a tile's lines
 

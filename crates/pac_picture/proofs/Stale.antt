@@ -1,20 +1,15 @@
 -- Where all cells count as differing, all are counted.
 use Rattle.pac_picture.proofs.Common.{AreStale, Bool, IsLayer, List, Shadow, StaleCellsAreDrawn, Strip, VideoMemory, VideoRoms}
-use Rattle.pac_picture.proofs.Common.{all_differing, ap, arith, cell_differs, cell_row_of, cells_of, count_by, differing_cells}
-use Rattle.pac_picture.proofs.Common.{differing_in, drawn_from, false, get_or-map, get_or-set_other, length, length-map, made_stale, map}
-use Rattle.pac_picture.proofs.Common.{no_shadow, refl, shadow_at, stale_rows, suc, sym, tabulate, true, true≢false, zero, ℕ, ◌*◌, ◌+◌}
-use Rattle.pac_picture.proofs.Common.{◌<◌, ◌∙◌, ◌≡◌}
+use Rattle.pac_picture.proofs.Common.{all_differing, arith, cell_differs, cell_row_of, cells_of, count_by, differing_cells, differing_in}
+use Rattle.pac_picture.proofs.Common.{drawn_from, false, get_or-map, get_or-set_other, length, length-map, made_stale, map, no_shadow, refl}
+use Rattle.pac_picture.proofs.Common.{shadow_at, stale_rows, suc, sym, tabulate, true, true≢false, zero, ℕ, ◌*◌, ◌<◌, ◌∙◌, ◌≡◌}
 use Rattle.std.proofs.Common.{sum}
 use Rattle.pac_picture.proofs.Counts.{count-more, count-none}
 use Rattle.pac_picture.proofs.Layers.{sum-more, sum-none, stale-at, length-stale}
 
 count-always : (test : ℕ → Bool) (count : ℕ) → ((k : ℕ) → test k ≡ true) → count_by test (tabulate count (λ k. k)) ≡ count
 count-always test zero always = sym (count-none test)
-count-always test (suc count) always =
-    let before = count-always test count always in
-    let last = always count in
-    let next : suc count ≡ count + 1 = omega arith in
-    rw (count-more test count, before, last) (sym next)
+count-always test (suc count) always = grind (arith, count-more, always, count-always test count)
 
 -- the 36 cells of a row
 pub row-counts : (shadow : Shadow) (tiles colours : List ℕ) → shadow.is_drawn ≡ false → differing_cells shadow tiles colours ≡ 36
@@ -23,11 +18,7 @@ row-counts shadow tiles colours is = count-always (cell_differs shadow tiles col
 
 sum-always : (value : ℕ → ℕ) (each count : ℕ) → ((k : ℕ) → k < count → value k ≡ each) → sum (tabulate count value) ≡ each * count
 sum-always value each zero always = sym (sum-none value) ∙ omega arith
-sum-always value each (suc count) always =
-    let before = sum-always value each count (λ k below. always k (omega arith)) in
-    let last = always count (omega arith) in
-    let next : each * count + each ≡ each * suc count = omega arith in
-    rw (sum-more value count, before, last) next
+sum-always value each (suc count) always = grind (arith, sum-more, always, sum-always value each count)
 
 -- the 1,008 cells of all rows
 all-count : (shadows : List Shadow) (memory : VideoMemory) → AreStale shadows → all_differing shadows memory ≡ 1008
@@ -49,18 +40,12 @@ stale-cells-are-drawn memory state = record {
 -- ---- where they do
 
 pub new-stale : (shadows : List Shadow) → shadows ≡ stale_rows → AreStale shadows
-new-stale shadows is = record {
-  high = ap length is ∙ length-stale;
-  each = λ row below. ap (λ shadows. (shadow_at shadows row).is_drawn) is ∙ ap (λ (shadow : Shadow). shadow.is_drawn) (stale-at row below);
-}
+new-stale shadows is = record { high = rw is length-stale; each = λ row below. rw (is, stale-at row below) }
 
 pub made-are-stale : (old new : List Shadow) → new ≡ map made_stale old → length old ≡ 28 → AreStale new
 made-are-stale old new is high = record {
-  high = ap length is ∙ length-map old made_stale ∙ high;
-  each = λ row below.
-      let inside : row < length old = omega (arith, below, high) in
-      ap (λ shadows. (shadow_at shadows row).is_drawn) is
-      ∙ ap (λ (shadow : Shadow). shadow.is_drawn) (get_or-map made_stale old row no_shadow no_shadow inside);
+  high = rw (is, length-map) high;
+  each = λ row below. rw (is, get_or-map made_stale old row no_shadow no_shadow (omega (arith, below, high)));
 }
 
 -- a layer of which every cell counts as differing, whatever its ROMs are

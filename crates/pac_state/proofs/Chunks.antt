@@ -16,6 +16,4 @@ at-chunk width (suc count) xs (suc y) below =
 
 pub chunks-are : {X : Type 0} (width count : ℕ) (xs : List X)
     → first_chunks width count xs ≡ tabulate count (λ y. take width (drop (width * y) xs))
-chunks-are width count xs =
-    tabulate-is (first_chunks width count xs) count (λ y. take width (drop (width * y) xs)) [] (long width count xs)
-    (at-chunk width count xs)
+chunks-are width count xs = tabulate-is _ count _ [] (long width count xs) (at-chunk width count xs)

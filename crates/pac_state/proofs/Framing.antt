@@ -1,10 +1,9 @@
 -- Blocks of states: what stands in them, and which bytes are blocks.
-use Rattle.pac_state.proofs.Common.{BoardState, Fields, IsBlock, IsFramed, IsPicture, IsState, IsStateInRange, IsText, IsWellFormed, List}
-use Rattle.pac_state.proofs.Common.{None, Option, Some, TellsFields, TellsFieldsButLines, [], ap}
-use Rattle.pac_state.proofs.Common.{append_assoc, arith, block_text, body, bytes_at_place, drop, file_front, file_size, flat_map}
-use Rattle.pac_state.proofs.Common.{flat_map-split, from_le_bytes, from_le_bytes-to_le_bytes_2, get_or, joined_pieces, length}
-use Rattle.pac_state.proofs.Common.{length-append, no_digest, refl, state_in, subst, sym, take, take_all, version_in, w16}
-use Rattle.pac_state.proofs.Common.{written_version, ℕ, ◌++◌, ◌+◌, ◌<◌, ◌∙◌, ◌≡◌, ◌≤◌}
+use Rattle.pac_state.proofs.Common.{BoardState, Fields, IsBlock, IsFramed, IsPicture, IsState, IsText, IsWellFormed, List, None, Option}
+use Rattle.pac_state.proofs.Common.{Some, TellsFields, TellsFieldsButLines, [], ap, append_assoc, arith, block_text, body, bytes_at_place}
+use Rattle.pac_state.proofs.Common.{file_front, file_size, flat_map, flat_map-split, from_le_bytes, from_le_bytes-to_le_bytes_2, get_or}
+use Rattle.pac_state.proofs.Common.{joined_pieces, length, length-append, no_digest, refl, rules, state_in, subst, sym, take, take_all, w16}
+use Rattle.pac_state.proofs.Common.{written_version, ℕ, ◌+◌, ◌<◌, ◌∙◌, ◌≡◌, ◌≤◌}
 use Rattle.pac_state.proofs.Again.{same-again}
 use Rattle.pac_state.proofs.Files.{sizes}
 use Rattle.pac_state.proofs.Whole.{AreBytes, part-add, body-is}
@@ -15,10 +14,7 @@ use Rattle.pac_state.proofs.Written.{HasPieces, front-pieces, part-at, length-fr
 block-pieces : (state : BoardState) → IsWellFormed state.now.board.memory
     → HasPieces written_version no_digest state (block_text state)
 unfolding block_text
-block-pieces state formed =
-    subst (HasPieces written_version no_digest state)
-    (sym (append_assoc (file_front written_version no_digest state) (joined_pieces state.now.board.lines) no_digest))
-    (front-pieces written_version no_digest state (joined_pieces state.now.board.lines ++ no_digest) refl formed)
+block-pieces state formed = rw append_assoc (front-pieces written_version no_digest state _ refl formed)
 
 block-end : (state : BoardState) → IsWellFormed state.now.board.memory → IsPicture state.now.board.lines
     → bytes_at_place 67736 20 (block_text state) ≡ no_digest
@@ -29,10 +25,8 @@ block-picture : (state : BoardState) → IsWellFormed state.now.board.memory →
     → bytes_at_place 3224 64512 (block_text state) ≡ joined_pieces state.now.board.lines
 unfolding block_text
 block-picture state formed picture =
-    ap (bytes_at_place 3224 64512)
-    (append_assoc (file_front written_version no_digest state) (joined_pieces state.now.board.lines) no_digest)
-    ∙ part-at 3224 64512 (file_front written_version no_digest state) (joined_pieces state.now.board.lines) no_digest
-    (length-front written_version no_digest state refl formed) (length-lines state.now.board.lines picture)
+    rw append_assoc (part-at 3224 64512 (file_front written_version no_digest state) (joined_pieces state.now.board.lines) no_digest
+    (length-front written_version no_digest state refl formed) (length-lines state.now.board.lines picture))
 
 pub block-again : (state : BoardState) → IsState state → state_in (block_text state) ≡ state
 block-again state is =
@@ -41,8 +35,7 @@ block-again state is =
 
 pub is-block : (state : BoardState) → IsState state → IsBlock (block_text state)
 is-block state is =
-    let same = sym (block-again state is) in
-    record { in_range = subst IsStateInRange same is.range; text = ap block_text same }
+    let same = block-again state is in record { in_range = rw same is.range; text = rw same }
 
 -- ---- bytes that are a block
 
@@ -50,44 +43,32 @@ pub framed-of : (bytes : List ℕ) → length bytes ≡ file_size → IsBlock by
 framed-of bytes size block =
     let well = sizes bytes size block.in_range in
     let pieces = subst (HasPieces written_version no_digest (state_in bytes)) (sym block.text) (block-pieces (state_in bytes) well) in
+    let end = ap (bytes_at_place 67736 20) block.text ∙ block-end (state_in bytes) well block.in_range.picture in
     record {
       magic = sym pieces.magic;
       version = ap (from_le_bytes w16) pieces.version ∙ from_le_bytes-to_le_bytes_2 2 (omega arith);
-      digests = record {
-        set = sym pieces.digest;
-        end = sym (ap (bytes_at_place 67736 20) block.text ∙ block-end (state_in bytes) well block.in_range.picture);
-      };
+      digests = record { set = sym pieces.digest; end = sym end };
     }
 
 text-of-block : (bytes : List ℕ) → length bytes ≡ file_size → IsBlock bytes → IsText bytes
 text-of-block bytes size block =
-    let well = sizes bytes size block.in_range in
-    let pieces = subst (HasPieces written_version no_digest (state_in bytes)) (sym block.text) (block-pieces (state_in bytes) well) in
-    record {
-      in_range = block.in_range;
-      written = record { processor = sym pieces.processor; controls = sym pieces.controls; due = sym pieces.due };
-    }
+    let pieces = subst (HasPieces written_version no_digest (state_in bytes)) (sym block.text)
+    (block-pieces (state_in bytes) (sizes bytes size block.in_range)) in search rules
 
 block-of : (bytes : List ℕ) → AreBytes bytes → length bytes ≡ file_size → IsFramed bytes → IsText bytes → IsBlock bytes
 unfolding block_text
 block-of bytes fits size framed text =
-    let before : body (version_in bytes) no_digest (state_in bytes) ≡ bytes_at_place 0 67736 bytes =
-    body-is no_digest bytes fits size framed.magic framed.digests.set text.written in
-    let same : body written_version no_digest (state_in bytes) ≡ bytes_at_place 0 67736 bytes =
-    ap (λ version. body version no_digest (state_in bytes)) (sym framed.version) ∙ before in
+    let before = body-is no_digest bytes fits size framed.magic framed.digests.set text.written in
     record {
       in_range = text.in_range;
-      text = cc (same, framed.digests.end, part-add 0 67736 20 bytes, take_all 67756 bytes (omega (arith, size)));
+      text = cc (before, framed.version, framed.digests.end, part-add 0 67736 20 bytes, take_all 67756 bytes (omega (arith, size)));
     }
 
 pub reads-block : (bytes : List ℕ) → ((i : ℕ) → get_or bytes i 0 < 256) → length bytes ≡ file_size → IsFramed bytes
     → (result : Option Fields) → TellsFields IsText bytes result → TellsFields IsBlock bytes result
 unfolding AreBytes
-reads-block bytes fits size framed (Some fields) reads = record {
-  holds = block-of bytes fits size framed reads.holds;
-  state = reads.state;
-  in_range = reads.in_range;
-}
+reads-block bytes fits size framed (Some fields) reads =
+    record { holds = block-of bytes fits size framed reads.holds; state = reads.state; in_range = reads.in_range }
 reads-block bytes fits size framed None reads = λ (block : IsBlock bytes). reads (text-of-block bytes size block)
 
 -- the same, where the lines may be none of a picture
@@ -111,6 +92,4 @@ pub next-fits : {X : Type 0} (f : X → List ℕ) (pieces : List X) (k : ℕ) (d
     → end ≡ at + length (flat_map f (take k pieces)) → at + length (flat_map f pieces) ≤ size
     → end + length (f (get_or pieces k default)) ≤ size
 next-fits f pieces k default at end size inside here room =
-    let outer = length-append (flat_map f (take k pieces) ++ f (get_or pieces k default)) (flat_map f (drop (k + 1) pieces)) in
-    let inner = length-append (flat_map f (take k pieces)) (f (get_or pieces k default)) in
-    omega (arith, ap length (flat_map-split f pieces k default inside), outer, inner, here, room)
+    omega (arith, simp length-append at (ap length (flat_map-split f pieces k default inside)), here, room)

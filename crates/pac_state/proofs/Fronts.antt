@@ -1,10 +1,9 @@
 -- A block with another front: of a block, and of zeros, the picture of which is black.
-use Rattle.pac_state.proofs.Common.{BoardState, IsBlock, IsFrontOf, IsState, IsWellFormed, List, [], ap, append-nil, append_assoc, arith}
-use Rattle.pac_state.proofs.Common.{black, block_text, body, bytes_at_place, common_steps, drop, drop-append_seam, drop-replicate}
-use Rattle.pac_state.proofs.Common.{file_front, file_size, flat_map-append, joined_pieces, length, length-append, lines_of, no_digest}
-use Rattle.pac_state.proofs.Common.{picture_in, refl, replicate, replicate-append-replicate, rules, sealed_file, state_in, subst, suc, sym}
-use Rattle.pac_state.proofs.Common.{tabulate, tabulate-same, take, take-replicate, written_version, zero, ℕ, ◌*◌, ◌++◌, ◌+◌, ◌-◌, ◌∙◌, ◌∷◌}
-use Rattle.pac_state.proofs.Common.{◌≡◌, ◌≤◌}
+use Rattle.pac_state.proofs.Common.{BoardState, IsBlock, IsFrontOf, IsState, IsWellFormed, List, ap, append-nil, append_assoc, arith, black}
+use Rattle.pac_state.proofs.Common.{block_text, body, bytes_at_place, common_steps, drop, drop-append_seam, drop-replicate, file_size}
+use Rattle.pac_state.proofs.Common.{flat_map-append, joined_pieces, length, length-append, lines_of, no_digest, picture_in, refl, replicate}
+use Rattle.pac_state.proofs.Common.{replicate-append-replicate, rules, sealed_file, state_in, suc, sym, tabulate, tabulate-same}
+use Rattle.pac_state.proofs.Common.{take-replicate, written_version, zero, ℕ, ◌*◌, ◌++◌, ◌+◌, ◌-◌, ◌∙◌, ◌≡◌, ◌≤◌}
 use Rattle.pac_state.proofs.Files.{sizes}
 use Rattle.pac_state.proofs.Written.{length-front, length-body, length-sha1}
 
@@ -20,12 +19,7 @@ with-front front rest state is after = grind (arith, common_steps)
 after-front : (state : BoardState) → IsWellFormed state.now.board.memory
     → drop 3224 (block_text state) ≡ joined_pieces state.now.board.lines ++ no_digest
 unfolding block_text
-after-front state formed =
-    let front = file_front written_version no_digest state in
-    let rest = joined_pieces state.now.board.lines ++ no_digest in
-    ap (drop 3224) (append_assoc front (joined_pieces state.now.board.lines) no_digest)
-    ∙ subst (λ size. drop size (front ++ rest) ≡ rest) (length-front written_version no_digest state refl formed)
-    (drop-append_seam front rest)
+after-front state formed = rw (append_assoc, ← length-front written_version no_digest state refl formed, drop-append_seam)
 
 pub front-changed : (old front : List ℕ) (state : BoardState) → length old ≡ file_size → IsBlock old → IsFrontOf state front
     → state.now.board.lines ≡ (state_in old).now.board.lines → front ++ drop 3224 old ≡ block_text state
@@ -38,12 +32,7 @@ joined-zeros : (count width : ℕ) → joined_pieces (tabulate count (λ _. repl
 unfolding tabulate
 joined-zeros zero width = search rules
 joined-zeros (suc count) width =
-    let more : count * width + width ≡ suc count * width = omega arith in
-    flat_map-append (λ (piece : List ℕ). piece) (tabulate count (λ _. replicate width 0)) (replicate width 0 ∷ [])
-    ∙ ap (λ (rest : List ℕ). joined_pieces (tabulate count (λ _. replicate width 0)) ++ rest) (append-nil (replicate width 0))
-    ∙ ap (λ (before : List ℕ). before ++ replicate width 0) (joined-zeros count width)
-    ∙ replicate-append-replicate (count * width) width 0
-    ∙ ap (λ (n : ℕ). replicate n 0) more
+    grind (arith, flat_map-append, append-nil, joined-zeros count width, replicate-append-replicate)
 
 rest-of-zeros : (front count width all : ℕ) → all ≡ front + (count * width + 20)
     → drop front (replicate all 0) ≡ joined_pieces (tabulate count (λ _. replicate width 0)) ++ no_digest
@@ -63,16 +52,14 @@ front-of-zeros front state is same =
 
 -- the part of zeros that a line has
 line-of-zeros : (at size all : ℕ) → at + size ≤ all → bytes_at_place at size (replicate all 0) ≡ replicate size 0
-line-of-zeros at size all within =
-    ap (take size) (drop-replicate at all 0) ∙ take-replicate size (all - at) 0 (omega (arith, within))
+line-of-zeros at size all within = rw drop-replicate (take-replicate size (all - at) 0 (omega (arith, within)))
 
 -- and their picture is black
 pub lines-of-zeros : lines_of (picture_in (replicate file_size 0)) ≡ black
 unfolding black
 lines-of-zeros =
-    ap lines_of (line-of-zeros 3224 64512 file_size (omega arith))
-    ∙ tabulate-same 224 (λ y. bytes_at_place (288 * y) 288 (replicate 64512 0)) (λ _. replicate 288 0)
-    (λ y below. line-of-zeros (288 * y) 288 64512 (omega (arith, below)))
+    rw (line-of-zeros 3224 64512 file_size (omega arith))
+    (tabulate-same 224 _ _ (λ y below. line-of-zeros (288 * y) 288 64512 (omega (arith, below))))
 
 -- ---- files
 

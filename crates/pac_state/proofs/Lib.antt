@@ -4,7 +4,6 @@ pub mod Chunks
 pub mod Files
 pub mod Framing
 pub mod Fronts
-pub mod Read
 pub mod Sealing
 pub mod Taken
 pub mod Whole

@@ -1,9 +1,9 @@
 -- A file whose fields stand as they are written is the text of its state.
-use Rattle.pac_state.proofs.Common.{AreWritten, Damaged, List, NoState, None, OtherSet, OtherVersion, Parts, Size, [], ap, append-nil}
-use Rattle.pac_state.proofs.Common.{arith, begins_with_magic, body, body_size, bytes_at_place, bytes_eq-Decides, devices, digest_of, drop}
-use Rattle.pac_state.proofs.Common.{drop-drop, file_front, file_size, flat_map-append, from_le_bytes, get_or, get_or-drop, head}
-use Rattle.pac_state.proofs.Common.{is_of_another_version, is_of_set, is_sealed, joined_pieces, le_bytes_2, le_bytes_4, le_bytes_8, length}
-use Rattle.pac_state.proofs.Common.{length-drop, length-take-le, lines_of, load_fault, magic, min, not, picture_in, ram, refl, save_text}
+use Rattle.pac_state.proofs.Common.{AreWritten, Damaged, List, NoState, None, OtherSet, OtherVersion, Parts, Size, [], append-nil, arith}
+use Rattle.pac_state.proofs.Common.{begins_with_magic, body, body_size, bytes_at_place, bytes_eq-Decides, devices, digest_of, drop}
+use Rattle.pac_state.proofs.Common.{drop-drop, file_size, flat_map-append, from_le_bytes, get_or, get_or-drop, head, is_of_another_version}
+use Rattle.pac_state.proofs.Common.{is_of_set, is_sealed, joined_pieces, le_bytes_2, le_bytes_4, le_bytes_8, length, length-drop}
+use Rattle.pac_state.proofs.Common.{length-take-le, lines_of, load_fault, magic, min, not, picture_in, ram, refl, save_text}
 use Rattle.pac_state.proofs.Common.{saved_double_word, saved_long_word, saved_word, sha1, state_in, subst, suc, sym, tabulate, take}
 use Rattle.pac_state.proofs.Common.{take-add, take-append-drop, take_all, version_in, w16, w32, w64, zero, ℕ, ◌*◌, ◌++◌, ◌+◌, ◌<◌, ◌==◌}
 use Rattle.pac_state.proofs.Common.{◌∙◌, ◌∷◌, ◌≡◌, ◌≤◌}
@@ -44,7 +44,7 @@ take-bytes width bytes fits i = omega arith
 
 drop-bytes : (at : ℕ) (bytes : List ℕ) → AreBytes bytes → AreBytes (drop at bytes)
 unfolding AreBytes
-drop-bytes at bytes fits i = rw (get_or-drop at bytes i 0) (fits (at + i))
+drop-bytes at bytes fits i = rw get_or-drop (fits (at + i))
 
 pub part-bytes : (at width : ℕ) (bytes : List ℕ) → AreBytes bytes → AreBytes (bytes_at_place at width bytes)
 part-bytes at width bytes fits = take-bytes width (drop at bytes) (drop-bytes at bytes fits)
@@ -78,10 +78,11 @@ head-is : (of_set bytes : List ℕ) → AreBytes bytes → length bytes ≡ file
     → joined_pieces (head (version_in bytes) of_set (state_in bytes)) ≡ bytes_at_place 0 82 bytes
 unfolding head cut total
 head-is of_set bytes fits size start digest written =
-    same-seven start (word-again 8 bytes fits (omega (arith, size))) digest written.processor
-    (long-again 58 bytes fits (omega (arith, size))) (long-again 66 bytes fits (omega (arith, size)))
-    (long-again 74 bytes fits (omega (arith, size)))
-    ∙ joined-cut 0 (8 ∷ 2 ∷ 20 ∷ 28 ∷ 8 ∷ 8 ∷ 8 ∷ []) bytes
+    let word = word-again 8 bytes fits (omega (arith, size)) in
+    let time = long-again 58 bytes fits (omega (arith, size)) in
+    let steps = long-again 66 bytes fits (omega (arith, size)) in
+    let asked = long-again 74 bytes fits (omega (arith, size)) in
+    cc (joined-cut 0 (8 ∷ 2 ∷ 20 ∷ 28 ∷ 8 ∷ 8 ∷ 8 ∷ []) bytes, start, word, digest, written.processor, time, steps, asked)
 
 ram-is : (bytes : List ℕ) → joined_pieces (ram (state_in bytes)) ≡ bytes_at_place 82 3072 bytes
 unfolding ram cut total
@@ -103,15 +104,11 @@ lines-joined zero picture = refl
 lines-joined (suc count) picture =
     let here : 0 + 288 * count ≡ 288 * count = omega arith in
     let next : 288 * count + 288 ≡ 288 * suc count = omega arith in
-    flat_map-append (λ line. line) (tabulate count (λ y. bytes_at_place (288 * y) 288 picture))
-    (bytes_at_place (288 * count) 288 picture ∷ [])
-    ∙ (ap (λ (last : List ℕ). joined_pieces (tabulate count (λ y. bytes_at_place (288 * y) 288 picture)) ++ last)
-    (append-nil (bytes_at_place (288 * count) 288 picture))
-    ∙ (cc (lines-joined count picture, here, part-add 0 (288 * count) 288 picture, next)))
+    rw (flat_map-append, append-nil) (cc (lines-joined count picture, here, part-add 0 (288 * count) 288 picture, next))
 
 lines-are : (bytes : List ℕ) → length bytes ≡ file_size → joined_pieces (lines_of (picture_in bytes)) ≡ bytes_at_place 3224 64512 bytes
 lines-are bytes size =
-    let long : length (picture_in bytes) ≡ 64512 = length-part 3224 64512 bytes (omega (arith, size)) in
+    let long = length-part 3224 64512 bytes (omega (arith, size)) in
     lines-joined 224 (picture_in bytes) ∙ take_all 64512 (picture_in bytes) (omega (arith, long))
 
 -- ---- the whole
@@ -122,9 +119,7 @@ pub body-is : (of_set bytes : List ℕ) → AreBytes bytes → length bytes ≡ 
 body-is of_set bytes fits size start digest written =
     let first = head-is of_set bytes fits size start digest written in
     let third = devices-is bytes fits size written in
-    let before : file_front (version_in bytes) of_set (state_in bytes) ≡ bytes_at_place 0 3224 bytes =
-    cc (first, ram-is bytes, third, part-add 0 82 3072 bytes, part-add 0 3154 70 bytes) in
-    cc (before, lines-are bytes size, part-add 0 3224 64512 bytes)
+    cc (first, ram-is bytes, third, part-add 0 82 3072 bytes, part-add 0 3154 70 bytes, lines-are bytes size, part-add 0 3224 64512 bytes)
 
 pub text-of : (set : Parts) (bytes : List ℕ) → ((i : ℕ) → get_or bytes i 0 < 256) → load_fault (digest_of set) bytes ≡ None
     → AreWritten (state_in bytes) bytes → save_text (version_in bytes) set (state_in bytes) ≡ bytes
@@ -136,11 +131,9 @@ text-of set bytes fits none written =
     let third = below (not (length bytes == file_size)) Size _ second in
     let closed = tested (is_sealed bytes) Damaged _ third in
     let same = tested (is_of_set (digest_of set) bytes) OtherSet _ (below (not (is_sealed bytes)) Damaged _ third) in
-    let start : take 8 bytes ≡ magic =
+    let start =
     subst (λ n. take (min 8 n) bytes ≡ take (min 8 n) magic) size
     ((bytes_eq-Decides (take (min 8 (length bytes)) bytes) (take (min 8 (length bytes)) magic)).0 begun) in
-    let digest : digest_of set ≡ bytes_at_place 10 20 bytes = (bytes_eq-Decides (digest_of set) (bytes_at_place 10 20 bytes)).0 same in
-    let seal : sha1 (take body_size bytes) ≡ drop body_size bytes =
-    (bytes_eq-Decides (sha1 (take body_size bytes)) (drop body_size bytes)).0 closed in
-    let before : body (version_in bytes) (digest_of set) (state_in bytes) ≡ take body_size bytes =
-    body-is (digest_of set) bytes fits size (sym start) digest written in cc (before, seal, take-append-drop body_size bytes)
+    let digest = (bytes_eq-Decides (digest_of set) (bytes_at_place 10 20 bytes)).0 same in
+    let seal = (bytes_eq-Decides (sha1 (take body_size bytes)) (drop body_size bytes)).0 closed in
+    let before = body-is (digest_of set) bytes fits size (sym start) digest written in cc (before, seal, take-append-drop body_size bytes)

@@ -10,12 +10,11 @@ use Rattle.pac_state.proofs.Whole.{cut, total}
 -- ---- pieces of a text, cut out of it
 
 part-here : (before piece after : List ℕ) → bytes_at_place (length before) (length piece) (before ++ (piece ++ after)) ≡ piece
-part-here before piece after =
-    ap (take (length piece)) (drop-append_seam before (piece ++ after)) ∙ take-append_seam piece after
+part-here before piece after = rw (drop-append_seam, take-append_seam)
 
 pub part-at : (at width : ℕ) (before piece after : List ℕ) → length before ≡ at → length piece ≡ width
     → bytes_at_place at width (before ++ (piece ++ after)) ≡ piece
-part-at at width before piece after here wide = grind (arith, part-here)
+part-at at width before piece after here wide = rw (← here, ← wide) (part-here before piece after)
 
 abbrev widths : List (List ℕ) → List ℕ
 widths [] = []
@@ -26,22 +25,18 @@ cut-joined : (before : List ℕ) (parts : List (List ℕ)) (after : List ℕ)
 unfolding cut
 cut-joined before [] after = refl
 cut-joined before (piece ∷ more) after =
-    let at : length before + length piece ≡ length (before ++ piece) = sym (length-append before piece) in
-    let one : before ++ ((piece ++ joined_pieces more) ++ after) ≡ before ++ (piece ++ (joined_pieces more ++ after)) =
-    ap (λ (rest : List ℕ). before ++ rest) (append_assoc piece (joined_pieces more) after) in
-    let other : before ++ (piece ++ (joined_pieces more ++ after)) ≡ (before ++ piece) ++ (joined_pieces more ++ after) =
-    sym (append_assoc before piece (joined_pieces more ++ after)) in
-    let first : bytes_at_place (length before) (length piece) (before ++ ((piece ++ joined_pieces more) ++ after)) ≡ piece =
-    ap (bytes_at_place (length before) (length piece)) one ∙ part-here before piece (joined_pieces more ++ after) in
-    let rest : cut (length before + length piece) (widths more) (before ++ ((piece ++ joined_pieces more) ++ after)) ≡ more =
-    cc (at, one, other, cut-joined (before ++ piece) more after) in
-    rw (first, rest) refl
+    rw (
+      append_assoc piece (joined_pieces more) after,
+      part-here,
+      ← length-append before piece,
+      ← append_assoc before piece,
+      cut-joined (before ++ piece) more after,
+    )
 
 length-joined : (parts : List (List ℕ)) → length (joined_pieces parts) ≡ total (widths parts)
 unfolding total
 length-joined [] = refl
-length-joined (piece ∷ more) =
-    length-append piece (joined_pieces more) ∙ ap (λ rest. length piece + rest) (length-joined more)
+length-joined (piece ∷ more) = rw (length-append, length-joined more)
 
 -- ---- the pieces of a state
 
@@ -83,10 +78,8 @@ pub record HasPieces (number : ℕ) (of_set : List ℕ) (state : BoardState) (by
 front-cut : (version : ℕ) (digest : List ℕ) (state : BoardState) (after : List ℕ) → length digest ≡ 20 → IsWellFormed state.now.board.memory
     → cut 0 places (file_front version digest state ++ after) ≡ pieces version digest state
 front-cut version digest state after long sizes =
-    subst (λ (lengths : List ℕ). cut 0 lengths (file_front version digest state ++ after) ≡ pieces version digest state)
-    (widths-are version digest state long sizes)
-    (subst (λ (text : List ℕ). cut 0 (widths (pieces version digest state)) (text ++ after) ≡ pieces version digest state)
-    (joined-pieces version digest state) (cut-joined [] (pieces version digest state) after))
+    rw (← widths-are version digest state long sizes, ← joined-pieces version digest state)
+    (cut-joined [] (pieces version digest state) after)
 
 nth : (n : ℕ) {one other : List (List ℕ)} → one ≡ other → get_or one n [] ≡ get_or other n []
 nth n same = ap (λ (parts : List (List ℕ)). get_or parts n []) same
@@ -120,8 +113,7 @@ front-pieces version digest state after long sizes =
 pub length-front : (version : ℕ) (digest : List ℕ) (state : BoardState) → length digest ≡ 20 → IsWellFormed state.now.board.memory
     → length (file_front version digest state) ≡ 3224
 unfolding total
-length-front version digest state long sizes =
-    ap length (sym (joined-pieces version digest state)) ∙ (grind (arith, length-joined, total, widths-are))
+length-front version digest state long sizes = rw (← joined-pieces) (grind (arith, length-joined, total, widths-are))
 
 -- these pieces, one after another, are the head, and the devices
 pub head-is : (digest : List ℕ) (state : BoardState) {version cpu time steps asked : List ℕ} → version ≡ saved_word written_version
@@ -164,32 +156,28 @@ lines-before : (lines : List (List ℕ)) → IsPicture lines → (count : ℕ) �
     length (joined_pieces (take count lines)) ≡ 288 * count
 lines-before lines picture zero within = refl
 lines-before lines picture (suc count) within =
-    let inside : count < length lines = omega (arith, within) in
     let wide : length (get_or lines count []) ≡ 288 = picture.wide count (omega (arith, within)) in
     let before = lines-before lines picture count (omega (arith, within)) in
-    let more : joined_pieces (take count lines) ++ get_or lines count [] ≡ joined_pieces (take (count + 1) lines) =
-    flat_map-one-more (λ (piece : List ℕ). piece) lines count [] inside in
+    let more = flat_map-one-more (λ (piece : List ℕ). piece) lines count [] (omega (arith, within)) in
     let next : count + 1 ≡ suc count = omega arith in grind (arith, length-append)
 
 pub length-lines : (lines : List (List ℕ)) → IsPicture lines → length (joined_pieces lines) ≡ 64512
 length-lines lines picture =
-    let all : take 224 lines ≡ lines = take_all 224 lines (let high : length lines ≡ 224 = picture.high in omega (arith, high)) in
-    ap (λ lines. length (joined_pieces lines)) (sym all) ∙ lines-before lines picture 224 (omega arith)
+    let high : length lines ≡ 224 = picture.high in
+    let all = take_all 224 lines (omega (arith, high)) in
+    subst (λ lines. length (joined_pieces lines) ≡ 64512) all (lines-before lines picture 224 (omega arith))
 
 line-at : (lines : List (List ℕ)) → IsPicture lines → (y : ℕ) → y < 224 →
     bytes_at_place (288 * y) 288 (joined_pieces lines) ≡ get_or lines y []
 line-at lines picture y inside =
     let before = lines-before lines picture y (omega (arith, inside)) in
-    let split : (joined_pieces (take y lines) ++ get_or lines y []) ++ joined_pieces (drop (y + 1) lines) ≡ joined_pieces lines =
-    flat_map-split (λ (piece : List ℕ). piece) lines y [] (omega (arith, inside)) in
-    ap (bytes_at_place (288 * y) 288) (grind (arith, common_steps))
-    ∙ part-at (288 * y) 288 (joined_pieces (take y lines)) (get_or lines y []) (joined_pieces (drop (y + 1) lines)) before
-    (picture.wide y inside)
+    rw (← flat_map-split (λ (piece : List ℕ). piece) lines y [] (omega (arith, inside)), append_assoc)
+    (part-at (288 * y) 288 (joined_pieces (take y lines)) (get_or lines y []) (joined_pieces (drop (y + 1) lines)) before
+    (picture.wide y inside))
 
 pub lines-again : (lines : List (List ℕ)) → IsPicture lines → lines_of (joined_pieces lines) ≡ lines
 lines-again lines picture =
-    sym (tabulate-is lines 224 (λ y. bytes_at_place (288 * y) 288 (joined_pieces lines)) [] picture.high
-    (λ y inside. sym (line-at lines picture y inside)))
+    sym (tabulate-is lines 224 _ [] picture.high (λ y inside. sym (line-at lines picture y inside)))
 
 -- ---- the digests
 
@@ -201,21 +189,14 @@ length-sha1 message = refl
 
 pub has-pieces : (version : ℕ) (digest : List ℕ) (state : BoardState) → length digest ≡ 20 → IsWellFormed state.now.board.memory
     → HasPieces version digest state (sealed_file (body version digest state))
-has-pieces version digest state long sizes =
-    let seal = sha1 (body version digest state) in
-    subst (HasPieces version digest state)
-    (sym (append_assoc (file_front version digest state) (joined_pieces state.now.board.lines) seal))
-    (front-pieces version digest state (joined_pieces state.now.board.lines ++ seal) long sizes)
+has-pieces version digest state long sizes = rw append_assoc (front-pieces version digest state _ long sizes)
 
 pub has-picture : (version : ℕ) (digest : List ℕ) (state : BoardState) → length digest ≡ 20 → IsWellFormed state.now.board.memory
     → IsPicture state.now.board.lines →
     bytes_at_place 3224 64512 (sealed_file (body version digest state)) ≡ joined_pieces state.now.board.lines
 has-picture version digest state long sizes picture =
-    let seal = sha1 (body version digest state) in
-    ap (bytes_at_place 3224 64512) (append_assoc (file_front version digest state) (joined_pieces state.now.board.lines) seal)
-    ∙ part-at 3224 64512 (file_front version digest state) (joined_pieces state.now.board.lines) seal
-    (length-front version digest state long sizes)
-    (length-lines state.now.board.lines picture)
+    rw append_assoc (part-at 3224 64512 (file_front version digest state) (joined_pieces state.now.board.lines) _
+    (length-front version digest state long sizes) (length-lines state.now.board.lines picture))
 
 pub length-body : (version : ℕ) (digest : List ℕ) (state : BoardState) → length digest ≡ 20 → IsWellFormed state.now.board.memory
     → IsPicture state.now.board.lines → length (body version digest state) ≡ 67736

@@ -1,5 +1,5 @@
 -- The block of the file's board, whose set is that of these ROMs.
-use Rattle.pac_block.proofs.Common.{ap, block_text, digest_of, refl, set_of_roms, size-of, state_of, sym, upgraded_state, ℕ, ◌∙◌}
+use Rattle.pac_block.proofs.Common.{digest_of, refl, set_of_roms, size-of, sym}
 use Rattle.pac_block.proofs.Loaded.{loaded, not-loaded}
 use Rattle.pac_block.proofs.files.load.Goals as goal
 
@@ -21,9 +21,7 @@ pub returns-in-Ok : goal.returns-in-Ok
 returns-in-Ok c =
     let set = set_of_roms c.args.roms.now in
     loaded c.args.roms.now c.args.text.now _ c.in-Ok.fields c.in_ok-check_roms.ensures (λ i. (c.type_inv.text i).fits)
-    (c.in-Ok.ensures set (sym c.digest.ensures)) c.fields_have_states.ensures
-    (c.bring_up.ensures
-    ∙ ap (λ (version : ℕ). block_text (upgraded_state set version (state_of c.in-Ok.fields))) c.file_version.ensures)
+    (c.in-Ok.ensures set (sym c.digest.ensures)) c.fields_have_states.ensures (rw c.file_version.ensures at c.bring_up.ensures)
 
 pub returns-in-Err : goal.returns-in-Err
 returns-in-Err c =

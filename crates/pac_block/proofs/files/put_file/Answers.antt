@@ -1,6 +1,13 @@
 -- The file fills the buffer, which has its size.
-use Rattle.pac_block.proofs.Common.{body, file-size, refl, sealed_file, state_of, sym, written_version, ◌∙◌}
-use Rattle.pac_block.proofs.Filling.{filled}
+use Rattle.pac_block.proofs.Common.{HostBuffer, List, Result, Saves, WriteFault, arith, body, buffer_refused, buffer_took, file-size}
+use Rattle.pac_block.proofs.Common.{length, length-take-le, refl, sealed_file, state_of, sym, written_version, ℕ, ◌∙◌, ◌≡◌}
+use Rattle.std.proofs.lemmas.List.{take_all}
+
+-- there is room for all of it, so nothing is refused
+filled : {A : Type 0} (text : List ℕ) (result : Result A WriteFault) (old new : HostBuffer) (left : List ℕ) → old.taken ≡ 0
+    → length text ≡ length old.bytes.now → Saves buffer_took buffer_refused old text result new
+    → (old.bytes.ghost_name ≡ new.bytes.ghost_name → left ≡ new.bytes.now) → left ≡ text
+filled text result old new left head long saves ends = grind (arith, length-take-le, take_all)
 
 pub returns : Rattle.pac_block.proofs.files.put_file.Goals.returns
 returns c =

@@ -1,5 +1,4 @@
-use Rattle.pac_block.proofs.RoomOfCalls.{room-is-enough}
-use Rattle.pac_block.proofs.TimeParts.{room-is-bounded}
+use Rattle.pac_block.proofs.TimeParts.{room-is-enough}
 
 pub returns : Rattle.pac_block.proofs.laws.room_is_enough.Goals.returns
-returns c = room-is-enough room-is-bounded
+returns c = room-is-enough

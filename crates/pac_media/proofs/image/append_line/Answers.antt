@@ -1,4 +1,4 @@
-use Rattle.std.proofs.Common.{rules, arith}
+use Rattle.std.proofs.Common.{arith, rules}
 use Rattle.pac_media.proofs.Blocks.{part-more}
 use Rattle.pac_media.proofs.Common.{common_steps}
 use Rattle.pac_media.proofs.image.append_line.Goals as goal

@@ -5,7 +5,7 @@ use Rattle.pac_media.proofs.image.black_lines.Goals as goal
 push-step : {A : Type 0} (xs ys : List A) (count : ℕ) (value : ℕ → A) (next : A) → ys ≡ xs ++ next ∷ [] → next ≡ value count →
     xs ≡ tabulate count value → ys ≡ tabulate (count + 1) value
 unfolding tabulate
-push-step xs ys count value next grown is so_far = rw (add-one, grown, so_far, is) refl
+push-step xs ys count value next grown is so_far = rw (add-one, grown, so_far, is)
 
 pub loop-init : goal.loop-init
 unfolding tabulate

@@ -1,4 +1,4 @@
-use Rattle.pac_media.proofs.Common.{IsPicture, ap, arith, length, ppm_of, set-picture, subst, ◌*◌, ◌+◌, ◌-◌, ◌<◌, ◌∙◌, ◌≡◌}
+use Rattle.pac_media.proofs.Common.{arith, set-picture, ◌*◌, ◌+◌, ◌-◌, ◌≡◌}
 use Rattle.pac_media.proofs.Blocks.{image-length, line-part, line-drawn, lines-step, all-lines}
 use Rattle.pac_media.proofs.image.redraw.Goals as goal
 
@@ -11,7 +11,7 @@ redraw_line-requires c = let part : 15 + 864 * c.loop-y.y + 864 - (15 + 864 * c.
 pub loop-y-preserved : goal.loop-y-preserved
 loop-y-preserved c = record {
   picture = set-picture c.loop-y.kept c.loop-y.y c.redraw_line.new.kept c.loop-y.invariant.picture c.loop-y-test.true
-      (ap length (c.redraw_line.ensures.kept ∙ c.row.ensures.line) ∙ c.row.ensures.picture.wide c.loop-y.y c.loop-y-test.true)
+      (rw (c.redraw_line.ensures.kept, c.row.ensures.line) (c.row.ensures.picture.wide c.loop-y.y c.loop-y-test.true))
       (λ x. rw (c.redraw_line.ensures.kept, c.row.ensures.line) (c.row.ensures.picture.below x c.loop-y.y));
   drawn = grind (arith, line-drawn);
   high = λ _. c.row.ensures.picture.high;
@@ -21,11 +21,6 @@ loop-y-preserved c = record {
 pub returns : goal.returns
 returns c =
     let all : c.loop-y.y ≡ 224 = omega (arith, c.loop-y-test.false, c.loop-y.auto.y-end) in
-    let some : 0 < c.loop-y.y = omega (arith, all) in
-    let same = all-lines c.loop-y.kept c.args.lines.now c.loop-y.y all c.loop-y.invariant.picture.high (c.loop-y.invariant.high some)
-    c.loop-y.invariant.same in
-    record {
-      drawn = c.loop-y.invariant.drawn ∙ ap (λ lines. ppm_of lines c.args.palette.now) same;
-      kept = same;
-      picture = subst IsPicture same c.loop-y.invariant.picture;
-    }
+    let same = all-lines c.loop-y.kept c.args.lines.now c.loop-y.y all c.loop-y.invariant.picture.high
+    (c.loop-y.invariant.high (omega (arith, all))) c.loop-y.invariant.same in
+    record { drawn = rw same at c.loop-y.invariant.drawn; kept = same; picture = rw same at c.loop-y.invariant.picture }

@@ -1,4 +1,4 @@
-use Rattle.std.proofs.Common.{◌≡◌, ◌-◌, ◌+◌, ◌∙◌, ap, take, drop, arith}
+use Rattle.std.proofs.Common.{ap, arith, drop, take, ◌+◌, ◌-◌, ◌∙◌, ◌≡◌}
 
 pub returns : Rattle.pac_media.proofs.image.word_at.Goals.returns
 returns c =

@@ -1,4 +1,4 @@
-use Rattle.std.proofs.Common.{◌≡◌, ◌<◌, ℕ, [], ◌∷◌, length, get_or}
+use Rattle.std.proofs.Common.{[], get_or, length, ℕ, ◌<◌, ◌∷◌, ◌≡◌}
 
 abbrev pub invariant-loop-number : Rattle.pac_media.proofs.palette.planes_of.Given.invariant-loop-number
 invariant-loop-number l = record {

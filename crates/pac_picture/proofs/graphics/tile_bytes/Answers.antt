@@ -1,4 +1,4 @@
-use Rattle.std.proofs.Common.{◌*◌, rules, arith}
+use Rattle.std.proofs.Common.{arith, rules, ◌*◌}
 use Rattle.pac_picture.proofs.Decoded.{sixteen-read}
 
 pub returns : Rattle.pac_picture.proofs.graphics.tile_bytes.Goals.returns

@@ -1,4 +1,4 @@
-use Rattle.std.proofs.Common.{◌≡◌, ◌<◌, ◌==◌, ℕ, not, false, get_or, length, slice_index}
+use Rattle.std.proofs.Common.{false, get_or, length, not, slice_index, ℕ, ◌<◌, ◌==◌, ◌≡◌}
 
 abbrev pub invariant-loop-place : Rattle.pac_picture.proofs.laws.changed.Given.invariant-loop-place
 invariant-loop-place l = record {

@@ -1,4 +1,4 @@
-use Rattle.std.proofs.Common.{◌≡◌, ◌<◌, ◌*◌, ◌==◌, ℕ, not, false, get_or, length, slice_index}
+use Rattle.std.proofs.Common.{false, get_or, length, not, slice_index, ℕ, ◌*◌, ◌<◌, ◌==◌, ◌≡◌}
 
 abbrev pub invariant-loop-vector : Rattle.pac_picture.proofs.laws.changed_lanes.Given.invariant-loop-vector
 invariant-loop-vector l = record {

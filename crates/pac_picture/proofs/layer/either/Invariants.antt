@@ -1,4 +1,4 @@
-use Rattle.std.proofs.Common.{◌≡◌, ◌<◌, ◌||◌, ℕ, false, get_or, length}
+use Rattle.std.proofs.Common.{false, get_or, length, ℕ, ◌<◌, ◌||◌, ◌≡◌}
 
 abbrev pub invariant-loop-k : Rattle.pac_picture.proofs.layer.either.Given.invariant-loop-k
 invariant-loop-k l = record {

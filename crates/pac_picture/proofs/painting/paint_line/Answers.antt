@@ -1,4 +1,4 @@
-use Rattle.std.proofs.Common.{◌≡◌, ◌<◌, ◌+◌, arith}
+use Rattle.std.proofs.Common.{arith, ◌+◌, ◌<◌, ◌≡◌}
 use Rattle.pac_picture.proofs.Blended.{box-painted}
 
 pub returns-then-columns : Rattle.pac_picture.proofs.painting.paint_line.Goals.returns-then-columns

@@ -1,4 +1,4 @@
-use Rattle.std.proofs.Common.{◌≡◌, ◌-◌, ◌∙◌, arith}
+use Rattle.std.proofs.Common.{arith, ◌-◌, ◌∙◌, ◌≡◌}
 use Rattle.pac_picture.proofs.Painted.{painted-none, painted-more, painted-first}
 use Rattle.pac_picture.proofs.Boxes.{told-box}
 use Rattle.pac_picture.proofs.painting.paint_sprites.Goals as goal

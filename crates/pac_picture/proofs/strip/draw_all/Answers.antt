@@ -1,4 +1,4 @@
-use Rattle.std.proofs.Common.{◌≡◌, ◌+◌, ◌-◌, true, arith}
+use Rattle.std.proofs.Common.{arith, true, ◌+◌, ◌-◌, ◌≡◌}
 use Rattle.pac_picture.proofs.Strips.{none-drawn, drawn-more, all-drawn}
 use Rattle.pac_picture.proofs.strip.draw_all.Goals as goal
 

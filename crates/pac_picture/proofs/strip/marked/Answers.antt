@@ -1,4 +1,4 @@
-use Rattle.std.proofs.Common.{rules, arith}
+use Rattle.std.proofs.Common.{arith, rules}
 use Rattle.pac_picture.proofs.Counts.{count-none, count-step, one-at-most}
 use Rattle.pac_picture.proofs.strip.marked.Goals as goal
 

@@ -1,4 +1,4 @@
-use Rattle.pac_state.proofs.Common.{IsBlock, arith, false, sym, true, ◌∙◌, ◌≡◌}
+use Rattle.pac_state.proofs.Common.{IsBlock, arith}
 use Rattle.pac_state.proofs.Framing.{framed-of, reads-block-but-lines}
 use Rattle.pac_state.proofs.block.read_block_but_lines.Goals as goal
 
@@ -7,5 +7,4 @@ returns-then-is_framed c = grind (arith, reads-block-but-lines)
 
 pub returns-else-is_framed : goal.returns-else-is_framed
 returns-else-is_framed c = λ (block : IsBlock c.args.block.now).
-    let clash : false ≡ true = sym c.if-is_framed.false ∙ c.is_framed.ensures.1 (framed-of c.args.block.now c.told-block block) in
-    let no : ⊥ = cc in absurd no
+    absurd (cc (c.if-is_framed.false, c.is_framed.ensures.1 (framed-of c.args.block.now c.told-block block)))

@@ -1,4 +1,4 @@
-use Rattle.std.proofs.Common.{[], length, arith}
+use Rattle.std.proofs.Common.{[], arith, length}
 use Rattle.pac_state.proofs.Framing.{next-fits}
 
 pub put_at-end-requires : Rattle.pac_state.proofs.front.joined.Goals.put_at-end-requires

@@ -1,4 +1,4 @@
-use Rattle.std.proofs.Common.{Ok, Err}
+use Rattle.std.proofs.Common.{Err, Ok}
 use Rattle.pac_state.proofs.Files.{accepts, reads}
 
 pub returns : Rattle.pac_state.proofs.laws.reading_is_accepting.Goals.returns

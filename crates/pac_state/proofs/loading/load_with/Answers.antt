@@ -1,6 +1,6 @@
 -- The board of a file, made in a block of memory.
 use Rattle.pac_state.proofs.Common.{BoardState, Err, Ok, ap, digest_of, err_from_is_err_and, inr, refl, restored_board, rules, state_of}
-use Rattle.pac_state.proofs.Common.{sym, upgraded_board, version_in, ◌∙◌}
+use Rattle.pac_state.proofs.Common.{sym, ◌∙◌}
 use Rattle.pac_state.proofs.Files.{accepts}
 use Rattle.pac_state.proofs.Taken.{size-of}
 use Rattle.pac_state.proofs.loading.load_with.Goals as goal
@@ -26,24 +26,15 @@ put_fields-requires c = (c.in_ok-fields.ensures c.args.set.now (sym c.digest.ens
 pub returns-in-Ok-clause-answer : goal.returns-in-Ok-clause-answer
 returns-in-Ok-clause-answer c =
     let read = c.in_ok-fields.ensures c.args.set.now (sym c.digest.ensures) in
-    let set = c.args.set.now in
-    record {
-      sound = read.sound;
-      text = read.text;
-      board =
-          c.bring_up.ensures
-          ∙ ap (λ version. upgraded_board version c.deref_mut-in-Ok.result.now) c.file_version.ensures
-          ∙ ap (upgraded_board (version_in c.args.bytes.now))
-          (c.deref_mut-in-Ok.ensures.value ∙ c.put_fields.ensures
-          ∙ ap (λ board. restored_board board (state_of c.in_ok-fields.fields)) (c.deref_mut.ensures.value ∙ c.in-Ok.ensures)
-          ∙ ap (λ (state : BoardState). record { set = set; state = state; made = 0 }) read.state);
-    }
+    let board = c.deref_mut-in-Ok.ensures.value ∙ c.put_fields.ensures
+    ∙ ap (λ board. restored_board board (state_of c.in_ok-fields.fields)) (c.deref_mut.ensures.value ∙ c.in-Ok.ensures)
+    ∙ ap (λ (state : BoardState). record { set = c.args.set.now; state = state; made = 0 }) read.state in
+    record { sound = read.sound; text = read.text; board = c.bring_up.ensures ∙ rw (c.file_version.ensures, board) }
 
 pub returns-in-Ok-clause-files : goal.returns-in-Ok-clause-files
 returns-in-Ok-clause-files c =
     let answer = returns-in-Ok-clause-answer c in
-    let read = accepts c.args.set.now c.args.bytes.now (λ i. (c.type_inv.bytes i).fits) (Ok c.bring_up.new.board) (search rules) in
-    record { file = read.file; board = read.board }
+    accepts c.args.set.now c.args.bytes.now (λ i. (c.type_inv.bytes i).fits) (Ok c.bring_up.new.board) (search rules)
 
 pub returns-in-Err-clause-answer : goal.returns-in-Err-clause-answer
 returns-in-Err-clause-answer c =

@@ -1,4 +1,4 @@
-use Rattle.pac_state.proofs.Common.{IsText, false, sym, true, ◌∙◌, ◌≡◌}
+use Rattle.pac_state.proofs.Common.{IsText}
 use Rattle.pac_state.proofs.reading.fields_in.Goals as goal
 
 pub returns-then-are_in_range : goal.returns-then-are_in_range
@@ -8,5 +8,4 @@ returns-then-are_in_range c =
 
 pub returns-else-are_in_range : goal.returns-else-are_in_range
 returns-else-are_in_range c = λ (text : IsText c.args.bytes.now).
-    let clash : false ≡ true = sym c.if-are_in_range.false ∙ c.are_in_range.ensures.1 (c.in-Some.ensures.holds.1 text) in
-    let no : ⊥ = cc in absurd no
+    absurd (cc (c.if-are_in_range.false, c.are_in_range.ensures.1 (c.in-Some.ensures.holds.1 text)))

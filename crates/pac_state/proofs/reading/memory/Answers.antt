@@ -1,5 +1,3 @@
-use Rattle.std.proofs.Common.{refl}
-
 pub returns : Rattle.pac_state.proofs.reading.memory.Goals.returns
 returns c =
     rw (
@@ -11,4 +9,4 @@ returns c =
       c.part-3.ensures,
       c.part-4.ensures,
       c.part-5.ensures,
-    ) refl
+    )

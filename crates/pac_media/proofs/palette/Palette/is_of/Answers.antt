@@ -1,8 +1,6 @@
-use Rattle.pac_media.proofs.Common.{Decides-eqb, refl, slice_eq-Decides, sym, ◌∙◌, ◌≡◌}
+use Rattle.pac_media.proofs.Common.{Decides-eqb, refl, slice_eq-Decides}
 
 pub returns : Rattle.pac_media.proofs.palette.Palette.is_of.Goals.returns
 returns c =
     let both = slice_eq-Decides (λ a b. slice_eq-Decides Decides-eqb a b _ refl) c.as_slice.result.now c.args.colours.now
-    c.eq.result c.eq.ensures in
-    let same : c.args.self.now ≡ c.as_slice.result.now = sym c.self.view_is ∙ sym c.as_slice.ensures.value in
-    (λ is. same ∙ both.0 is, λ are. both.1 (sym same ∙ are))
+    c.eq.result c.eq.ensures in rw (← c.self.view_is, ← c.as_slice.ensures.value) both

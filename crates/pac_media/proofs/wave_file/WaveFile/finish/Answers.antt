@@ -1,18 +1,12 @@
-use Rattle.pac_media.proofs.Common.{Gains, List, SoundFails, arith, err_from_is_err_and, pos, replicate, rules, samples_text, subst, ℕ, ◌+◌}
-use Rattle.pac_media.proofs.Common.{◌-◌, ◌<◌, ◌≡◌}
+use Rattle.pac_media.proofs.Common.{arith, err_from_is_err_and, rules, ◌<◌, ◌≡◌}
 use Rattle.pac_media.proofs.Gathered.{fails-within, finishes-after, gains-joined, gains-nothing, silence-more, silence-rest}
 use Rattle.pac_media.proofs.wave_file.WaveFile.finish.Goals as goal
 
 pub returns-in_err-put-clause-written : goal.returns-in_err-put-clause-written
 returns-in_err-put-clause-written g c =
-    let count = c.loop.counter in
-    let all = c.args.self.now.owed in
-    let below : count < all = omega (arith, c.loop-test.true, c.loop.invariant.end_is) in
+    let below : c.loop.counter < c.args.self.now.owed = omega (arith, c.loop-test.true, c.loop.invariant.end_is) in
     let p = err_from_is_err_and c.from_residual.result c.from_residual.ensures.1 in
-    rw (p.1, p.2) (subst (λ (text : List ℕ). SoundFails g.W.Out.took g.W.Out.refused c.args.self.now text c.in_err-put.field-0.0
-    c.put.new.self)
-    (silence-rest count all below)
-    (fails-within c.loop.invariant.given c.in_err-put.ensures.put (samples_text (replicate (all - (count + 1)) (pos 0)))))
+    rw (p.1, p.2, ← silence-rest c.loop.counter c.args.self.now.owed below) (fails-within c.loop.invariant.given c.in_err-put.ensures.put _)
 
 pub returns-clause-written : goal.returns-clause-written
 returns-clause-written g c =
@@ -27,8 +21,7 @@ loop-init g c = grind (arith, gains-nothing)
 pub loop-preserved : goal.loop-preserved
 loop-preserved g c =
     record {
-      given = subst (λ (text : List ℕ). Gains g.W.Out.took c.args.self.now text c.put.new.self) (silence-more c.loop.counter)
-          (gains-joined c.loop.invariant.given c.in_ok-put.ensures.put);
+      given = rw (← silence-more c.loop.counter) (gains-joined c.loop.invariant.given c.in_ok-put.ensures.put);
       owed = omega (arith, c.loop-test.true, c.loop.invariant.owed, c.loop.invariant.end_is, c.in_ok-put.ensures.owed);
       end_is = c.loop.invariant.end_is;
       shut = search rules;

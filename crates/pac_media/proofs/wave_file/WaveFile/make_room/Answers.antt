@@ -1,4 +1,4 @@
-use Rattle.pac_media.proofs.Common.{Bool, MatchBool, Sound, ap, arith, err_from_is_err_and, length, refl, subst, ◌++◌, ◌+◌, ◌∙◌, ◌≡◌, ◌≤◌}
+use Rattle.pac_media.proofs.Common.{Sound, ap, arith, err_from_is_err_and, length, refl, ◌+◌, ◌∙◌, ◌≤◌}
 use Rattle.pac_media.proofs.Gathered.{fails-within, gains-nothing, gains-joined, gains-waiting, delivered-gains}
 use Rattle.pac_media.proofs.wave_file.WaveFile.make_room.Goals as goal
 
@@ -12,7 +12,4 @@ returns-clause-put g c =
     let written = c.in_ok-flush.ensures.written in
     let none = ap (λ (sound : Sound g.row.W.Denot). length sound.waiting) c.self.view_is ∙ ap length written.none_waits in
     let room : length c.self.inside.waiting.items + length c.args.bytes.now ≤ 8192 = omega (arith, none, c.fits-bytes) in
-    let kept =
-    subst (λ (kept : Bool). MatchBool kept (c.keep.new.waiting.items ≡ c.self.inside.waiting.items ++ c.args.bytes.now) (c.keep.new.waiting
-    ≡ c.self.inside.waiting)) (c.keep.ensures.room room) c.keep.ensures.kept in
-    gains-joined (delivered-gains written) (gains-waiting c.self.view_is refl kept)
+    gains-joined (delivered-gains written) (gains-waiting c.self.view_is refl (rw (c.keep.ensures.room room) at c.keep.ensures.kept))

@@ -1,4 +1,4 @@
-use Rattle.pac_picture.proofs.Common.{true, shadow_at, ◌/◌, ◌∙◌, ◌≡◌}
+use Rattle.pac_picture.proofs.Common.{shadow_at, true, ◌/◌, ◌∙◌, ◌≡◌}
 use Rattle.pac_picture.proofs.Layers.{line-kept}
 
 pub returns-clause-line : Rattle.pac_picture.proofs.layer.Layer.line.Goals.returns-clause-line

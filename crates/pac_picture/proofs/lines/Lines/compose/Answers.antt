@@ -1,4 +1,4 @@
-use Rattle.std.proofs.Common.{◌≡◌, ◌<◌, length, arith, ◌∙◌, length-set}
+use Rattle.std.proofs.Common.{arith, length, length-set, ◌<◌, ◌∙◌, ◌≡◌}
 use Rattle.pac_picture.proofs.Layers.{all-at}
 use Rattle.pac_picture.proofs.Composed.{all-composed, composed-picture, lines-step, source-row}
 use Rattle.pac_picture.proofs.lines.Lines.compose.Goals as goal
