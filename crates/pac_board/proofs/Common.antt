@@ -5,21 +5,21 @@ pub use Rattle.pac_board_model.proofs.Common.{after_act, after_acts, append-nil,
 pub use Rattle.pac_board_model.proofs.Common.{moment_with_inputs, next_frame, next_with_inputs, onward_if, picture_count, play_step}
 pub use Rattle.pac_board_model.proofs.Common.{power_on_board_view, power_on_moment, program_size, replicate, slice_index_or, sound_count}
 pub use Rattle.pac_board_model.proofs.Common.{trace, walk_at_start, walk_to, with_frame, with_step, ◌^◌, ◌⊎◌}
-pub use Rattle.pac_machine.proofs.Common.{BoardStanding, BoardView, Bool, Ends, Goes, IsNextKind, IsNoted, IsTimely, IsWatched, Latched}
-pub use Rattle.pac_machine.proofs.Common.{List, MakesBatch, Moment, Next, None, Option, Output, Parts, PassesBy, Questions, Regs, Show}
-pub use Rattle.pac_machine.proofs.Common.{Some, Sound, StepProgress, View, Walk, [], ap, append_assoc, arith, at_moment, batch_at}
-pub use Rattle.pac_machine.proofs.Common.{blank_event, board_after, by_view, drop, drop-append_seam, ended-stays, false, frame_ticks}
-pub use Rattle.pac_machine.proofs.Common.{get_or, going-before, going-far, going-is-early, going-steps, has_ended, image_of, is_some}
-pub use Rattle.pac_machine.proofs.Common.{is_stop, length, line_event, map, map-append, nat_le, nat_lt, nat_tests, not-both, noted}
-pub use Rattle.pac_machine.proofs.Common.{noted_step, open-goes-on, outputs_of_step, read_of, refl, rules, sample_event, step, step-timely}
-pub use Rattle.pac_machine.proofs.Common.{stepped, stretch_end, subst, suc, sym, take, take-append_seam, true, video_memory, video_roms}
-pub use Rattle.pac_machine.proofs.Common.{view_after, walk, walk_after_step, walk_onward, zero, ℕ, ℤ, ◌&&◌, ◌++◌, ◌+◌, ◌-◌, ◌<◌, ◌||◌, ◌∙◌}
-pub use Rattle.pac_machine.proofs.Common.{◌∷◌, ◌≡◌, ◌≤◌}
+pub use Rattle.pac_machine.proofs.Common.{BoardStanding, BoardView, Bool, Ends, Goes, IsNextKind, IsNoted, IsTimely, Latched, List}
+pub use Rattle.pac_machine.proofs.Common.{MakesBatch, Moment, Next, None, Option, Output, Parts, PassesBy, Questions, Regs, Show, Some}
+pub use Rattle.pac_machine.proofs.Common.{Sound, StepProgress, View, Walk, [], ap, append_assoc, arith, at_moment, batch_at, blank_event}
+pub use Rattle.pac_machine.proofs.Common.{board_after, by_view, drop, drop-append_seam, ended-stays, false, frame_ticks, get_or}
+pub use Rattle.pac_machine.proofs.Common.{going-before, going-far, going-is-early, going-steps, has_ended, image_of, is_some, is_stop}
+pub use Rattle.pac_machine.proofs.Common.{length, line_event, map, map-append, nat_le, nat_lt, nat_tests, not-both, noted, noted_step}
+pub use Rattle.pac_machine.proofs.Common.{open-goes-on, outputs_of_step, read_of, refl, rules, sample_event, step, step-timely, stepped}
+pub use Rattle.pac_machine.proofs.Common.{stretch_end, subst, suc, sym, take, take-append_seam, true, video_memory, video_roms, view_after}
+pub use Rattle.pac_machine.proofs.Common.{walk, walk_after_step, walk_onward, zero, ℕ, ℤ, ◌&&◌, ◌++◌, ◌+◌, ◌-◌, ◌<◌, ◌||◌, ◌∙◌, ◌∷◌, ◌≡◌}
+pub use Rattle.pac_machine.proofs.Common.{◌≤◌}
 unfoldable pub use Rattle.pac_machine.proofs.Common.{palette_of}
 pub use Rattle.pac_board.specs.BoardFields.{Fields}
 pub use Rattle.pac_board.specs.Boxed.{unboxed}
-pub use Rattle.pac_board.specs.Calls.{board_after_course, board_after_run, board_after_step, course, next_from_moment, next_of, now_after}
-pub use Rattle.pac_board.specs.Calls.{outputs_given, outputs_in, run_ticks, with_due}
+pub use Rattle.pac_board.specs.Calls.{board_after_run, board_after_step, course, next_from_moment, next_of, now_after, outputs_given}
+pub use Rattle.pac_board.specs.Calls.{outputs_in, run_ticks, with_due}
 pub use Rattle.pac_board.specs.CallsLaws.{Advances, Executes, IsAdvanced, IsOfferRefused, IsRunRefused, IsStepRefused, Offers, StepsOnce}
 pub use Rattle.pac_board.specs.CallsLaws.{course_at, once_at, once_of_board}
 pub use Rattle.pac_board.specs.CallsProofs.{StepsOn, stop_of_once}
@@ -43,8 +43,7 @@ pub use Rattle.pac_board.specs.RomParts.{colour_prom_size, lookup_prom_size, spr
 pub use Rattle.pac_board.specs.Sinks.{Then, TookAll}
 pub use Rattle.pac_board.specs.SinksLaws.{Cut, Giving, RefusesAt, by}
 pub use Rattle.pac_board.specs.State.{BoardState, BoardValue, board_after_reset, board_with_inputs, due_outputs, due_outputs_in, due_with}
-pub use Rattle.pac_board.specs.State.{latest, most_asked, nothing_due, passed_lines, power_on_board, recomposed_view, shows_of, sounds_of}
-pub use Rattle.pac_board.specs.State.{steps_counted, time_of, with_view}
+pub use Rattle.pac_board.specs.State.{latest, most_asked, nothing_due, power_on_board, shows_of, sounds_of, steps_counted, time_of}
 pub use Rattle.pac_board.specs.StateLaws.{restored_board}
 pub use Rattle.pac_board.specs.Stretches.{HasBatch, HasStretched, IsHeardUntil, IsLastTurn, IsStretchRefused, IsStretched, IsTold, batch_of}
 pub use Rattle.pac_board.specs.Stretches.{stretch_of}
@@ -59,13 +58,11 @@ pub use Rattle.pac_board_model.proofs.HostCarried.{hosts-agree}
 pub use Rattle.pac_board_model.proofs.HostKeeps.{hosts-are-line-exact}
 pub use Rattle.pac_board_model.proofs.Told.{view-tells}
 pub use Rattle.pac_board_model.proofs.Walks.{ended-whole, goes-on, joined, late-has-ended, more-joined, on-the-way, stopped-has-ended}
-pub use Rattle.pac_board_model.proofs.Walks.{walks-joined}
 pub use Rattle.pac_cpu.specs.declared.once.Once.{Once}
 pub use Rattle.pac_cpu.specs.declared.once.Once.TheVariants.{Stepped, Stopped}
 pub use Rattle.pac_cpu.specs.declared.once.StepKind.{StepKind}
-pub use Rattle.pac_cpu.specs.declared.once.StepKind.TheVariants.{Halted}
 pub use Rattle.pac_cpu.specs.declared.once.Stop.{Stop}
-pub use Rattle.pac_machine.proofs.Noted.{noted-at, noted-more, noted-sooner}
+pub use Rattle.pac_machine.proofs.Noted.{noted-more, noted-sooner}
 pub use Rattle.pac_machine.proofs.Passing.{passes-fewer, passes-more, passes-on}
 pub use Rattle.pac_machine.proofs.Watched.{none-met, watched-first, watched-more}
 pub use Rattle.pac_machine.specs.declared.due.Due.{Due}

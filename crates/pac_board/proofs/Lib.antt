@@ -1,17 +1,11 @@
 pub mod Common
 pub mod Sinks
 pub mod Walked
-pub mod Offered
 pub mod Turns
-pub mod Singles
-pub mod Told
 pub mod Stretches
 pub mod Roads
 pub mod Pieces
-pub mod Parts
-pub mod HostWalks
 pub mod Hosts
-pub mod HostLists
 pub use Rattle.pac_picture.proofs.Tabulated
 pub use Rattle.pac_map.proofs.LatchBits
 pub use Rattle.pac_map.proofs.LatchBytes

@@ -21,9 +21,7 @@ module _ {S : Type 0} (took : S → Output → S → Type 0) where
       → TookAll took old (map Sound (take n samples)) between → took between (Sound sample) new
       → TookAll took old (map Sound (take (n + 1) samples)) new
   took-more samples sample n old between new inside is before last =
-      subst (λ (outputs : List Output). TookAll took old outputs new)
-      (sym (ap (map Sound) (take_more samples n sample inside ∙ ap (λ s. take n samples ++ s ∷ []) (sym is))
-      ∙ map-append Sound (take n samples) (sample ∷ [])))
+      rw (take_more samples n sample inside, ← is, map-append Sound (take n samples) (sample ∷ []))
       (took-both (map Sound (take n samples)) (Sound sample ∷ []) old between new before
       (record { between = new; before = last; after = refl }))
 

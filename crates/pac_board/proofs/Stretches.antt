@@ -3,16 +3,15 @@
 use Rattle.pac_board.proofs.Common.{BoardValue, BoardView, Bool, Ends, Giving, Goes, HasBatch, HasGone, HasStretched, IsHeardUntil}
 use Rattle.pac_board.proofs.Common.{IsLastTurn, IsOfferRefused, IsStretchRefused, IsStretched, IsTimely, IsTurn, IsWayRefused, List, Moment}
 use Rattle.pac_board.proofs.Common.{Next, None, Option, Output, Some, Sound, Stop, TookAll, Walk, [], ap, arith, batch_of, board_after_walk}
-use Rattle.pac_board.proofs.Common.{by, by_view, due_outputs, ended-whole, false, going-is-early, going-steps, has_ended, is_some}
-use Rattle.pac_board.proofs.Common.{late-has-ended, map, more-joined, next_from_moment, not-both, nothing_due, on-the-way, once_at}
-use Rattle.pac_board.proofs.Common.{outputs_in, outputs_of_step, refl, step, step-timely, stopped-has-ended, stretch_end, stretch_of, subst}
-use Rattle.pac_board.proofs.Common.{suc, sym, true, walk, walk_after_step, walk_to, way_at, with_due, ℕ, ℤ, ◌++◌, ◌+◌, ◌<◌, ◌||◌, ◌∙◌, ◌≡◌}
-use Rattle.pac_board.proofs.Common.{◌≤◌}
-use Rattle.pac_board.proofs.Pieces.{two-parts}
-use Rattle.pac_board.proofs.Sinks.{took-both, cut-along}
-use Rattle.pac_board.proofs.Turns.{IsUnderway, after-outputs, refused-goes, stepped-moved}
-use Rattle.pac_board.proofs.Turns.{turn-goes-on, turn-longer, turn-refused, turn-stops}
-use Rattle.pac_board.proofs.Walked.{walked-after}
+use Rattle.pac_board.proofs.Common.{by, by_view, due_outputs, ended-whole, false, going-is-early, going-steps, has_ended, is_some, map}
+use Rattle.pac_board.proofs.Common.{more-joined, next_from_moment, not-both, nothing_due, on-the-way, once_at, outputs_in, outputs_of_step}
+use Rattle.pac_board.proofs.Common.{refl, step, step-timely, stretch_end, stretch_of, subst, suc, sym, walk, walk_after_step, walk_to}
+use Rattle.pac_board.proofs.Common.{way_at, with_due, ℕ, ℤ, ◌++◌, ◌+◌, ◌<◌, ◌||◌, ◌∙◌, ◌≡◌, ◌≤◌}
+use Rattle.pac_board.proofs.Pieces.{walked-twice}
+use Rattle.pac_board.proofs.Sinks.{cut-along, took-both}
+use Rattle.pac_board.proofs.Turns.{IsUnderway, after-outputs, refused-goes, stepped-moved, turn-goes-on, turn-longer, turn-refused}
+use Rattle.pac_board.proofs.Turns.{turn-stops}
+use Rattle.pac_board.proofs.Walked.{step-ends, walked-after}
 
 -- ---- the last step of a stretch
 
@@ -27,6 +26,15 @@ no-stop None none = refl
 outputs-same : (h : Next BoardView) → outputs_of_step h ≡ outputs_in h
 outputs-same (Goes now outputs kind) = refl
 outputs-same (Ends stop) = refl
+
+-- a turn, by its answer
+
+last-turn : {S : Type 0} (took : S → Output → S → Type 0) (between new : BoardValue) (sink later : S) (w : Walk BoardView)
+    (h : Next BoardView) (time : ℕ) (stop : Option Stop) → stop ≡ (walk_after_step w h).stop
+    → IsTurn took between sink (once_at h time) new later → IsLastTurn took between sink stop new later
+last-turn took between new sink later w (Goes now outputs kind) time stop met turn =
+    rw met (record { ticks = _; kind = kind; turn = turn })
+last-turn took between new sink later w (Ends end) time stop met turn = rw met turn
 
 module _ {old : BoardValue} {near : ℕ} {stop : Option Stop} {given : List ℤ} {mid : BoardValue} (batch : HasBatch old near stop given mid)
   where
@@ -65,10 +73,12 @@ module _ {old : BoardValue} {near : ℕ} {stop : Option Stop} {given : List ℤ}
 
     -- ---- a stretch of one step
 
-    stretch-whole : (limit : ℕ) → near ≡ stretch_end limit old.state.now.time → given ≡ []
-        → has_ended near (batch_of old near (suc batch.tries)) ≡ true → IsStretched old limit stop mid
-    stretch-whole limit until_is none over =
-        let whole : batch_of old near (suc batch.tries) ≡ stretch_of old limit
+    pub single-goes : near ≡ old.state.now.time + 1 → given ≡ [] → IsStretched old (old.state.now.time + 1) stop mid
+    single-goes near_is none =
+        let so_far = (walked-after next near timely old.state.now batch.tries).time in
+        let over = ap (has_ended near) last-is ∙ step-ends near before_last last_next (timely before_last.now) (omega arith) in
+        let until_is : near ≡ stretch_end (old.state.now.time + 1) old.state.now.time = omega arith in
+        let whole : batch_of old near (suc batch.tries) ≡ stretch_of old (old.state.now.time + 1)
         = ended-whole next near timely old.state.now (suc batch.tries) over
         ∙ ap (λ (until : ℕ). walk_to next until old.state.now) until_is in
         let silent : before_last.outputs ≡ [] = batch.before ∙ ap (map Sound) none in
@@ -80,76 +90,51 @@ module _ {old : BoardValue} {near : ℕ} {stop : Option Stop} {given : List ℤ}
           stop_is = batch.stop_is ∙ ap (λ (w : Walk BoardView). w.stop) whole;
         }
 
-    -- a step ends what has less than 4 T-states left
-    step-ends : (w : Walk BoardView) (h : Next BoardView) → IsTimely w.now h → near ≤ w.now.time + 1
-        → has_ended near (walk_after_step w h) ≡ true
-    step-ends w (Goes now outputs kind) times soon =
-        let longer = times.0 in late-has-ended near (walk_after_step w (Goes now outputs kind)) (omega arith)
-    step-ends w (Ends stop) times soon = stopped-has-ended near (walk_after_step w (Ends stop)) stop refl
+    -- ---- the offer of what it gave
 
-    pub single-goes : near ≡ old.state.now.time + 1 → given ≡ [] → IsStretched old (old.state.now.time + 1) stop mid
-    single-goes near_is none =
-        let so_far = (walked-after next near timely old.state.now batch.tries).time in
-        stretch-whole (old.state.now.time + 1) (omega arith) none
-        (ap (has_ended near) last-is ∙ step-ends before_last last_next (timely before_last.now) (omega arith))
+    -- all of it was taken
+    pub stretch-taken : {S : Type 0} {took : S → Output → S → Type 0} {new : BoardValue} {limit : ℕ} {sink later : S} (asked : S)
+        → near ≤ limit → TookAll took sink (map Sound given) asked → new ≡ with_due mid nothing_due
+        → TookAll took asked (due_outputs mid) later → HasStretched took old limit sink stop new later
+    stretch-taken {took = took} {new = new} {limit = limit} {later = later} asked less taken same all =
+        let w = before_last in
+        record {
+          given = given;
+          between = board_after_walk old w;
+          before = heard-before limit less;
+          asked = asked;
+          batch = taken;
+          turn = last-turn took (board_after_walk old w) new asked later w last_next w.now.time stop
+              (batch.stop_is ∙ ap (λ (v : Walk BoardView). v.stop) last-is)
+              (record {
+                board =
+                    same ∙ ap (λ (board : BoardValue). with_due board nothing_due) batch.board ∙ ap (board_after_walk old) last-is
+                    ∙ sym (stepped-moved old w last_next last-later (timely w.now));
+                once_is = refl;
+                sink_is = rw (← last-outputs) all;
+              });
+        }
 
--- ---- a turn, by its answer
-
-last-turn : {S : Type 0} (took : S → Output → S → Type 0) (between new : BoardValue) (sink later : S) (w : Walk BoardView)
-    (h : Next BoardView) (time : ℕ) (stop : Option Stop) → stop ≡ (walk_after_step w h).stop
-    → IsTurn took between sink (once_at h time) new later → IsLastTurn took between sink stop new later
-last-turn took between new sink later w (Goes now outputs kind) time stop met turn =
-    subst (λ (answer : Option Stop). IsLastTurn took between sink answer new later) (sym met)
-    (record { ticks = _; kind = kind; turn = turn })
-last-turn took between new sink later w (Ends end) time stop met turn =
-    subst (λ (answer : Option Stop). IsLastTurn took between sink answer new later) (sym met) turn
-
--- all that the stretch gave was taken
-pub stretch-taken : {S : Type 0} {took : S → Output → S → Type 0} {old mid new : BoardValue} {limit near : ℕ} {sink later : S}
-    {stop : Option Stop} {given : List ℤ} (asked : S) → near ≤ limit → HasBatch old near stop given mid
-    → TookAll took sink (map Sound given) asked → new ≡ with_due mid nothing_due → TookAll took asked (due_outputs mid) later
-    → HasStretched took old limit sink stop new later
-stretch-taken {took} {old} {mid} {new} {limit} {near} {sink} {later} {stop} {given} asked less batch taken same all =
-    let w = before_last batch in
-    let h = last_next batch in
-    record {
-      given = given;
-      between = board_after_walk old w;
-      before = heard-before batch limit less;
-      asked = asked;
-      batch = taken;
-      turn = last-turn took (board_after_walk old w) new asked later w h w.now.time stop
-          (batch.stop_is ∙ ap (λ (v : Walk BoardView). v.stop) (last-is batch))
-          (record {
-            board =
-                same ∙ ap (λ (board : BoardValue). with_due board nothing_due) batch.board ∙ ap (board_after_walk old) (last-is batch)
-                ∙ sym (stepped-moved old w h (last-later batch) (step-timely (by_view old.set) w.now));
-            once_is = refl;
-            sink_is = subst (λ (xs : List Output). TookAll took asked xs later) (last-outputs batch) all;
-          });
-    }
-
--- some of it was refused
-pub stretch-left : {S : Type 0} {to : Giving S} {old mid new : BoardValue} {limit near : ℕ} {sink later : S} {stop : Option Stop}
-    {given : List ℤ} (asked : S) → near ≤ limit → HasBatch old near stop given mid → TookAll to.took sink (map Sound given) asked
-    → IsOfferRefused to mid asked new later → IsStretchRefused to old limit sink new later
-stretch-left {to} {old} {mid} {new} {limit} {near} {sink} {later} {stop} {given} asked less batch taken offer =
-    let w = before_last batch in
-    let h = last_next batch in
-    let cut = cut-along (sym (last-outputs batch)) refl offer.cut in
-    let goes = refused-goes old w h new.state.due cut (last-later batch) (step-timely (by_view old.set) w.now) in
-    record {
-      given = given;
-      between = board_after_walk old w;
-      before = heard-before batch limit less;
-      asked = asked;
-      batch = taken;
-      turn = record {
-        board = offer.board ∙ ap (λ (board : BoardValue). with_due board new.state.due) batch.board
-            ∙ ap (λ (v : Walk BoardView). with_due (board_after_walk old v) new.state.due) (last-is batch) ∙ sym goes.0;
-        cut = cut;
-      };
-    }
+    -- some of it was refused
+    pub stretch-left : {S : Type 0} {to : Giving S} {new : BoardValue} {limit : ℕ} {sink later : S} (asked : S) → near ≤ limit
+        → TookAll to.took sink (map Sound given) asked → IsOfferRefused to mid asked new later
+        → IsStretchRefused to old limit sink new later
+    stretch-left {new = new} {limit = limit} asked less taken offer =
+        let w = before_last in
+        let cut = cut-along (sym last-outputs) refl offer.cut in
+        let goes = refused-goes old w last_next new.state.due cut last-later (timely w.now) in
+        record {
+          given = given;
+          between = board_after_walk old w;
+          before = heard-before limit less;
+          asked = asked;
+          batch = taken;
+          turn = record {
+            board = offer.board ∙ ap (λ (board : BoardValue). with_due board new.state.due) batch.board
+                ∙ ap (λ (v : Walk BoardView). with_due (board_after_walk old v) new.state.due) last-is ∙ sym goes.0;
+            cut = cut;
+          };
+        }
 
 -- ---- the loop
 
@@ -178,44 +163,34 @@ module _ {S : Type 0} {took : S → Output → S → Type 0} {start : BoardValue
           steps = under.steps + heard.steps;
           board_is =
               heard.board
-              ∙ two-parts start start.state.asked v.now u.now u.now (walked-after next limit timely start.state.now under.steps).steps
-              from_there.steps refl
+              ∙ walked-twice start v u (walked-after next limit timely start.state.now under.steps).steps from_there.steps
               ∙ ap (board_after_walk start) joins;
           open_yet = sym (ap (λ (w : Walk BoardView). w.stop) joins) ∙ heard.open_yet;
           sink_is =
-              subst (λ (xs : List Output). TookAll took sink xs asked)
-              (ap (λ (xs : List Output). v.outputs ++ xs) (sym heard.heard) ∙ ap (λ (w : Walk BoardView). w.outputs) joins)
-              (took-both took v.outputs (map Sound given) sink taker asked under.sink_is taken);
+              rw (← joins, heard.heard) (took-both took v.outputs (map Sound given) sink taker asked under.sink_is taken);
         };
         later = omega (arith, from_there.time);
         early = omega (arith, heard.early);
       }
 
   -- a stretch that goes on, one that meets a stop, and one that is refused
-  told : {new : BoardValue} {later : S} {answer : Option Stop} (stop : Option Stop)
-      → HasStretched took board limit taker answer new later → answer ≡ stop → HasStretched took board limit taker stop new later
-  told {new} {later} stop stretched is =
-      subst (λ (answer : Option Stop). HasStretched took board limit taker answer new later) is stretched
-
   pub stretch-goes-on : {new : BoardValue} {later : S} {answer : Option Stop} → HasStretched took board limit taker answer new later
       → answer ≡ None → IsUnderway took start limit sink new later
   stretch-goes-on stretched is =
-      let one = told None stretched is in
+      let one = rw is at stretched in
       let on = is-on one.between one.given one.asked one.before one.batch in turn-goes-on on.under_yet on.early one.turn.turn refl
 
   pub stretch-longer : {new : BoardValue} {later : S} {answer : Option Stop} → HasStretched took board limit taker answer new later
       → answer ≡ None → board.state.now.time < new.state.now.time
   stretch-longer stretched is =
-      let one = told None stretched is in
+      let one = rw is at stretched in
       let on = is-on one.between one.given one.asked one.before one.batch in
-      let so_far = on.later in
-      let longer = turn-longer one.turn.turn refl in
-      omega arith
+      omega (arith, on.later, turn-longer one.turn.turn refl)
 
   pub stretch-stops : {new : BoardValue} {later : S} {answer : Option Stop} {stop : Stop}
       → HasStretched took board limit taker answer new later → answer ≡ Some stop → HasGone took start limit sink (Some stop) new later
   stretch-stops {stop = stop} stretched is =
-      let one = told (Some stop) stretched is in
+      let one = rw is at stretched in
       let on = is-on one.between one.given one.asked one.before one.batch in turn-stops on.under_yet on.early one.turn refl
 
   pub stretch-refused : {refused : S → Output → S → Type 0} {new : BoardValue} {later : S}

@@ -16,9 +16,6 @@ module _ {Board : Type 0} (ask : Questions Board) (one other : ℕ → ℕ) (sam
   inputs-same : (time : ℕ) (next : Next Board) → next_with_inputs ask one time next ≡ next_with_inputs ask other time next
   inputs-same time next = search rules
 
-  pub play-same : (now : Moment Board) → play_step ask one now ≡ play_step ask other now
-  play-same now = inputs-same now.time (step ask now)
-
 -- ---- from power-on
 
 pub courses-begin : CoursesBegin
@@ -30,7 +27,7 @@ courses-begin set switches script =
     let limit : end_of course ≡ frame_ticks * frames = omega arith in
     let masks : (frame : ℕ) → held_in course frame ≡ held script frame = λ frame. ap (held script) (omega arith) in
     ap (λ limit. walk_to (next_in course) limit from) limit
-    ∙ walk-same (next_in course) (play_step ask (held script)) (frame_ticks * frames) (play-same ask (held_in course) (held script) masks)
-    from (frame_ticks * frames)
+    ∙ walk-same (next_in course) (play_step ask (held script)) (frame_ticks * frames)
+    (λ now. inputs-same ask (held_in course) (held script) masks now.time (step ask now)) from (frame_ticks * frames)
     ∙ (runs-end ask (record { frames = frames; held = held script }) (power_on_board_view switches) (frame_ticks * frames)).1
     (walk-to-ends (play_step ask (held script)) (frame_ticks * frames) (play-timely ask (held script)) from)

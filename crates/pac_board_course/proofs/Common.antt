@@ -1,21 +1,21 @@
 -- The words that proofs here, and those of crates above, import of definitions, of std and of the crates below.
 
 pub use Rattle.pac_board.proofs.Common.{BoardState, BoardValue, BoardView, Bool, Cut, Ends, Entry, Err, Giving, Goes, GoesTo, GoesUntil}
-pub use Rattle.pac_board.proofs.Common.{HasGone, Hold, Image, IsNoted, IsTimely, IsWayRefused, IsWhole, List, Moment, Next, None, Ok}
-pub use Rattle.pac_board.proofs.Common.{Option, Output, Parts, PassesBy, Questions, Result, Show, Some, Sound, TookAll, Walk, ap, arith}
-pub use Rattle.pac_board.proofs.Common.{board_after, board_after_walk, board_with_inputs, by, by_view, due_outputs, ended-stays}
-pub use Rattle.pac_board.proofs.Common.{ended-whole, err_from_is_err_and, false, frame_steps, frame_ticks, goes-on, going-before}
-pub use Rattle.pac_board.proofs.Common.{going-steps, has_ended, inl, inr, is_some, joined, late-has-ended, latest, moment_with_inputs}
-pub use Rattle.pac_board.proofs.Common.{more-joined, most_asked, nat_le, nat_tests, next_with_inputs, noted, noted_step, nothing_due}
-pub use Rattle.pac_board.proofs.Common.{now_after, on-the-way, onward_if, open-goes-on, picture_count, play_step, power_on_board}
-pub use Rattle.pac_board.proofs.Common.{power_on_board_view, refl, restored_board, rules, sound_count, step, step-timely, stepped}
-pub use Rattle.pac_board.proofs.Common.{steps_counted, stopped-has-ended, subst, suc, sym, trace, true, walk, walk_after_step, walk_onward}
-pub use Rattle.pac_board.proofs.Common.{walk_to, with_due, zero, ℕ, ◌++◌, ◌+◌, ◌-◌, ◌<◌, ◌∙◌, ◌≡◌, ◌≤◌, ◌⊎◌}
+pub use Rattle.pac_board.proofs.Common.{HasGone, Image, IsNoted, IsTimely, IsWayRefused, IsWhole, List, Moment, Next, None, Ok, Option}
+pub use Rattle.pac_board.proofs.Common.{Output, Parts, PassesBy, Questions, Result, Show, Some, Sound, TookAll, Walk, ap, arith}
+pub use Rattle.pac_board.proofs.Common.{board_after_walk, board_with_inputs, by, by_view, due_outputs, ended-whole, err_from_is_err_and}
+pub use Rattle.pac_board.proofs.Common.{false, frame_steps, frame_ticks, goes-on, going-before, going-steps, has_ended, inl, inr, is_some}
+pub use Rattle.pac_board.proofs.Common.{joined, late-has-ended, latest, moment_with_inputs, more-joined, most_asked, nat_le, nat_tests}
+pub use Rattle.pac_board.proofs.Common.{next_with_inputs, noted, noted_step, nothing_due, now_after, on-the-way, onward_if, open-goes-on}
+pub use Rattle.pac_board.proofs.Common.{picture_count, play_step, power_on_board, power_on_board_view, refl, restored_board, rules}
+pub use Rattle.pac_board.proofs.Common.{sound_count, step, step-timely, stepped, steps_counted, stopped-has-ended, subst, suc, sym, trace}
+pub use Rattle.pac_board.proofs.Common.{true, walk, walk_after_step, walk_onward, walk_to, with_due, zero, ℕ, ◌++◌, ◌+◌, ◌-◌, ◌<◌, ◌∙◌, ◌≡◌}
+pub use Rattle.pac_board.proofs.Common.{◌≤◌, ◌⊎◌}
 pub use Rattle.pac_inputs.proofs.Common.{held, held_after, script_of, total_frames}
 pub use Rattle.pac_board.proofs.Noted.{walk-stepped}
-pub use Rattle.pac_board.proofs.Runs.{closed, closed_if, runs-end, walk-closed, walk-near}
+pub use Rattle.pac_board.proofs.Runs.{runs-end, walk-near}
 pub use Rattle.pac_board.proofs.Sinks.{cut-after, cut-along, cut-something, prefix-after, took-both}
-pub use Rattle.pac_board.proofs.Walks.{going-counted, open-is-late, play-timely, stopped-is-early, walk-to-ends}
+pub use Rattle.pac_board.proofs.Walks.{going-counted, open-is-late, play-timely, walk-to-ends}
 pub use Rattle.pac_board.specs.Due.{Due}
 pub use Rattle.pac_board.specs.PastStep.{PastStep}
 pub use Rattle.pac_board.specs.Stop.{Stop}
@@ -40,5 +40,4 @@ pub use Rattle.pac_board_course.specs.Trace.{Play, by_history, frames_gone, resu
 pub use Rattle.pac_board_course.specs.TraceLaws.{plays_joined}
 pub use Rattle.pac_board_course.specs.Trails.{told_of, trail_over}
 pub use Rattle.pac_board_course.specs.TurnsProofs.{board_at}
-pub use Rattle.pac_board_course.specs.declared.outcome.Outcome.{Outcome}
 pub use Rattle.std.proofs.Common.{if◌then◌else◌, min, ◌*◌, ◌/◌}

@@ -1,24 +1,15 @@
 -- Walks whose tries are their steps, and walks to two limits.
-use Rattle.pac_board_course.proofs.Common.{Bool, IsTimely, Moment, Next, None, Walk, arith, ended-stays, false, going-before, going-counted}
-use Rattle.pac_board_course.proofs.Common.{has_ended, refl, rules, suc, true, walk, walk_onward, zero, ℕ, ◌+◌, ◌≡◌, ◌≤◌}
+use Rattle.pac_board_course.proofs.Common.{Bool, IsTimely, Moment, Next, None, arith, false, going-before, going-counted, has_ended, refl}
+use Rattle.pac_board_course.proofs.Common.{rules, suc, true, walk, zero, ℕ, ◌+◌, ◌≡◌, ◌≤◌}
+use Rattle.pac_board.proofs.Walks.{going-yet}
 
 -- ---- steps and tries
 
 module _ {Board : Type 0} (next : Moment Board → Next Board) (limit : ℕ) (timely : (now : Moment Board) → IsTimely now (next now)) where
-  onward-most : (from : Moment Board) (n : ℕ) (w : Walk Board) (ended : Bool) → has_ended limit w ≡ ended
-      → w.now.steps ≤ from.steps + n → (walk_onward next limit w).now.steps ≤ from.steps + suc n
-  onward-most from n w ended over most = search rules
-
-  -- a try makes one step at the most
-  walk-most : (from : Moment Board) (n : ℕ) → (walk next limit from n).now.steps ≤ from.steps + n
-  walk-most from zero = omega arith
-  walk-most from (suc n) =
-      let w = walk next limit from n in onward-most from n w (has_ended limit w) refl (walk-most from n)
-
   -- where each try made a step, the walk had not ended before the last one
   pub going-if-counted : (from : Moment Board) (n : ℕ) → (walk next limit from (suc n)).now.steps ≡ from.steps + suc n
       → has_ended limit (walk next limit from n) ≡ false
-  going-if-counted from n counted = grind (arith, counted, ended-stays, walk-most)
+  going-if-counted from n counted = going-yet next limit timely from n (suc n) (omega (arith, counted))
 
   -- a walk without a stop, by as many tries as it made steps
   abbrev pub IsCounted : Moment Board → ℕ → Type 0

@@ -2,10 +2,8 @@ pub mod Common
 pub mod Counted
 pub mod Framed
 pub mod Whole
-pub mod Answered
 pub mod Begun
 pub mod Taken
-pub mod Strode
 pub use Rattle.pac_board.proofs.Agreed
 pub use Rattle.pac_board.proofs.HostCarried
 pub use Rattle.pac_board.proofs.Noted

@@ -1,37 +1,11 @@
 -- A course from frame to frame, to the end of its run.
-use Rattle.pac_board_course.proofs.Common.{BoardView, CourseValue, CoursesGoOn, Ends, Giving, HasPlayedInFrame, Hold, IsCourseHeldUp}
-use Rattle.pac_board_course.proofs.Common.{IsOver, IsTimely, IsUnderway, Moment, None, Option, Some, Stop, Walk, ap, arith, board_after}
-use Rattle.pac_board_course.proofs.Common.{by_view, course_after, cut-after, cut-along, cut-something, end_of, ended-whole, frame_end}
-use Rattle.pac_board_course.proofs.Common.{goes-on, going-steps, held, held_in, is_some, joined, late-has-ended, more-joined, nat_tests}
-use Rattle.pac_board_course.proofs.Common.{next_in, open-goes-on, play-timely, prefix-after, refl, rules, step, step-timely}
-use Rattle.pac_board_course.proofs.Common.{stopped-has-ended, subst, suc, sym, took-both, true, walk-near, walk_after_step, way_walked}
-use Rattle.pac_board_course.proofs.Common.{zero, ℕ, ◌++◌, ◌+◌, ◌-◌, ◌<◌, ◌∙◌, ◌≡◌, ◌≤◌}
+use Rattle.pac_board_course.proofs.Common.{BoardView, CourseValue, CoursesGoOn, Ends, Giving, HasPlayedInFrame, IsCourseHeldUp, IsOver}
+use Rattle.pac_board_course.proofs.Common.{IsTimely, IsUnderway, Moment, None, Option, Some, Stop, Walk, ap, arith, by_view, course_after}
+use Rattle.pac_board_course.proofs.Common.{cut-after, cut-along, cut-something, end_of, ended-whole, goes-on, going-steps, held_in, is_some}
+use Rattle.pac_board_course.proofs.Common.{joined, late-has-ended, more-joined, next_in, open-goes-on, play-timely, prefix-after, refl}
+use Rattle.pac_board_course.proofs.Common.{rules, stopped-has-ended, subst, suc, sym, took-both, true, walk_after_step, way_walked, zero, ℕ}
+use Rattle.pac_board_course.proofs.Common.{◌++◌, ◌+◌, ◌<◌, ◌∙◌, ◌≡◌, ◌≤◌}
 use mathlib.Core.List.{IsPrefix}
-use Rattle.pac_board_course.proofs.Framed.{frame_walk, moment_after, frames_ended}
-
--- ---- a frame
-
--- the frame under way ends no later than the run
-pub frame-within : (course : CourseValue) → course.board.state.now.time < end_of course → frame_end course ≤ end_of course
-frame-within course early = omega arith
-
--- the frame's walk is less than a step past its end
-pub frame-near : (course : CourseValue) (tries : ℕ) → (frame_walk course tries).now.time < frame_end course + 23
-frame-near course tries =
-    walk-near (step (by_view course.board.set)) (frame_end course) (step-timely (by_view course.board.set)) course.board.state.now tries
-    (omega arith)
-
--- the inputs that are held after a frame that has ended are the next one's
-pub held-after : (course : CourseValue) (tries mask : ℕ) → frame_end course ≤ (frame_walk course tries).now.time
-    → mask ≡ held course.script (suc (suc (frames_ended course)) - course.gone)
-    → record (frame_walk course tries).now {
-      board = board_after course.board.set (frame_walk course tries).now.board (Hold mask);
-    } ≡ moment_after course (frame_walk course tries).now
-held-after course tries mask ended masked = grind (arith, frame-near, frame_walk, frames_ended, nat_tests)
-
-pub not-held-yet : (course : CourseValue) (tries : ℕ) → (frame_walk course tries).now.time < frame_end course
-    → (frame_walk course tries).now ≡ moment_after course (frame_walk course tries).now
-not-held-yet course tries early = search rules
 
 -- ---- a course that goes on from where a walk has brought it
 

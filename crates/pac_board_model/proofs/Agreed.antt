@@ -1,8 +1,7 @@
 -- A run told by the source's items and the history is the run told by the bytes and the view, from power-on and from any moment on.
 use Rattle.pac_board_model.proofs.Common.{IsBoard, ResumedRunsAgree, RunsAgree, black-picture, decodes-prefix, length-code}
 use Rattle.pac_board_model.proofs.Common.{power-on-well-formed, power_on_board_view, rules, ℕ}
-use Rattle.pac_board_model.proofs.Carried.{run-carried, resumed-carried}
-use Rattle.pac_board_model.proofs.Items.{view-carries}
+use Rattle.pac_board_model.proofs.Carried.{resumed-carried, run-carried, view-carries}
 
 pub power-on-board : (switches : ℕ) → IsBoard (power_on_board_view switches)
 power-on-board switches = search (rules, black-picture, power-on-well-formed)

@@ -30,11 +30,11 @@ pub use Rattle.pac_board_model.specs.Laws.{WalksGoOn, WalksJoin, line_moment, ne
 pub use Rattle.pac_board_model.specs.MemoryLaws.{HistoryIsOfMemory, MemoryDecides, MemoryWalksAlone, by_memory}
 pub use Rattle.pac_board_model.specs.Output.{Image, Output, Show, Sound, image_of, picture_count, sound_count}
 pub use Rattle.pac_board_model.specs.Queries.{bit_at, blanks_since, history_request, is_latch, is_requested, is_reset_due, last_bit}
-pub use Rattle.pac_board_model.specs.Queries.{last_vector, lowest, takes_back}
+pub use Rattle.pac_board_model.specs.Queries.{last_vector, lowest}
 pub use Rattle.pac_board_model.specs.Resumed.{JoinsPlays, LastIsHeld, PlaysJoin, ResumedOutputsAreOfTheHistory, ResumedRunsAgree}
 pub use Rattle.pac_board_model.specs.Resumed.{ResumedRunsAreTimed, ResumedRunsEnd, ResumedRunsHaveTheirFrames, RunsAreContinued, RunsBegin}
 pub use Rattle.pac_board_model.specs.Resumed.{StoppedRunsStay}
-pub use Rattle.pac_board_model.specs.Shown.{accumulator_at, blank_count, flip, history_growth, line_at, memory_at, sample_at, sound_enable}
+pub use Rattle.pac_board_model.specs.Shown.{accumulator_at, blank_count, flip, line_at, memory_at, sample_at, sound_enable}
 pub use Rattle.pac_board_model.specs.ShownLaws.{history_outputs, sample_count}
 pub use Rattle.pac_board_model.specs.Step.{Ends, Goes, Moment, Next, Questions, StepProgress, after_cpu_step, at_moment, blank_event}
 pub use Rattle.pac_board_model.specs.Step.{frame_samples, frame_ticks, give, hidden_lines, line_event, line_ticks, next_after_events, note}

@@ -3,8 +3,7 @@ use Rattle.pac_board_model.proofs.Common.{Account, Act, Carries, Entry, Host, Ho
 use Rattle.pac_board_model.proofs.Common.{account_by_history, account_by_view, after_act, after_acts, ap, arith, board_after_entries}
 use Rattle.pac_board_model.proofs.Common.{common_steps, decodes-prefix, host_view, length-code, map, moment_view, next_view, put_now, refl}
 use Rattle.pac_board_model.proofs.Common.{rules, slice_index_or, sym, with_step, ℕ, ◌++◌, ◌∙◌, ◌∷◌, ◌≡◌}
-use Rattle.pac_board_model.proofs.Carried.{step-carried, play-step-carried}
-use Rattle.pac_board_model.proofs.Items.{view-carries}
+use Rattle.pac_board_model.proofs.Carried.{play-step-carried, step-carried, view-carries}
 use Rattle.pac_board_model.proofs.Told.{view-tells}
 
 module _ {From To : Type 0} (view : From → To) (account : Account From) (other : Account To)
@@ -24,8 +23,7 @@ module _ {From To : Type 0} (view : From → To) (account : Account From) (other
   kept-at kept number now = grind (arith, common_steps)
 
   put-carried : (entry : Entry) (now : Moment From) → seen (put_now account.ask entry now) ≡ put_now other.ask entry (seen now)
-  put-carried entry now =
-      λ i. record { regs = now.regs; board = carries.put now.board entry i; time = now.time; steps = now.steps }
+  put-carried entry now = cc (carries.put now.board entry)
 
   act-carried : (host : Host From) (act : Act) → host_view view (after_act account host act) ≡ after_act other (host_view view host) act
   act-carried host act = grind (arith, kept-at, kept-more, put-carried, step-carried, step-kept)

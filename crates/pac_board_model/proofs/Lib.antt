@@ -1,15 +1,7 @@
 pub mod Common
-pub mod Views
-pub mod Lists
-pub mod Latches
-pub mod Memories
-pub mod Voices
-pub mod Lines
 pub mod Told
 pub mod Carried
-pub mod Items
 pub mod Agreed
-pub mod Composing
 pub mod Walks
 pub mod Runs
 pub mod RunsKeep
@@ -17,11 +9,7 @@ pub mod Resumed
 pub mod ResumedTimes
 pub mod WalkTimes
 pub mod Outputs
-pub mod LinesPlaced
-pub mod LinesComposed
-pub mod FrameSamples
 pub mod HostCarried
 pub mod HostKeeps
-pub mod Muted
 pub mod MemoryAlone
 pub mod TheLaws

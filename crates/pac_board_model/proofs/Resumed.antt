@@ -7,9 +7,9 @@ use Rattle.pac_board_model.proofs.Common.{plays_joined, power_on_moment, refl, r
 use Rattle.pac_board_model.proofs.Common.{resumed_step, rules, run_at, suc, sym, true, walk, walk_after_step, walk_at_start, walk_onward}
 use Rattle.pac_board_model.proofs.Common.{walk_to, zero, ℕ, ◌*◌, ◌++◌, ◌+◌, ◌-◌, ◌/◌, ◌<◌, ◌==◌, ◌∙◌, ◌≡◌, ◌≤◌, ◌⊎◌}
 use Rattle.pac_board_model.proofs.Runs.{walk-below}
-use Rattle.pac_board_model.proofs.Walks.{stopped-has-ended, late-has-ended, open-is-late, going-far, ended-stays, going-steps}
-use Rattle.pac_board_model.proofs.Walks.{walk-ends, walk-to-ends, ended-whole, joined, on-the-way, walks-joined, stopped-is-early}
-use Rattle.pac_board_model.proofs.Walks.{step-timely, play-timely}
+use Rattle.pac_board_model.proofs.Walks.{ended-stays, ended-whole, going-far, going-steps, joined, late-has-ended, on-the-way, open-is-late}
+use Rattle.pac_board_model.proofs.Walks.{play-timely, step-timely, stopped-has-ended, stopped-is-early, walk-ends, walk-to-ends}
+use Rattle.pac_board_model.proofs.Walks.{walks-joined}
 
 -- ---- a run ends
 
@@ -49,9 +49,9 @@ resumed-runs-end ask play from = grind (arith, ended-is-resumed, enough-is-resum
 
 -- ---- from power-on no frame has gone by
 
-module _ {Board : Type 0} (ask : Questions Board) (play : Play) (board : Board) where
-  pub begins-at : (index : ℕ) → resumed_at ask play (power_on_moment board) index ≡ run_at ask play board index
-  begins-at index = search rules
+begins-at : {Board : Type 0} (ask : Questions Board) (play : Play) (board : Board) (index : ℕ)
+    → resumed_at ask play (power_on_moment board) index ≡ run_at ask play board index
+begins-at ask play board index = search rules
 
 pub runs-begin : {Board : Type 0} → RunsBegin Board
 runs-begin ask play board = record {
@@ -149,7 +149,7 @@ module _ {Board : Type 0} (ask : Questions Board) (held other : ℕ → ℕ) (en
   walk-same from (suc n) begun =
       let w = walk (play_step ask held) limit from n in
       onward-same w (has_ended limit w) refl
-      (λ e. let going = going-far (play_step ask held) limit (play-timely ask held) from n e in let time = going.time in omega arith)
+      (λ e. omega (arith, (going-far (play_step ask held) limit (play-timely ask held) from n e).time))
       ∙ ap (walk_onward (play_step ask other) limit) (walk-same from n begun)
 
 -- ---- two plays, one after another

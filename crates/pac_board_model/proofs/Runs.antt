@@ -4,8 +4,8 @@ use Rattle.pac_board_model.proofs.Common.{RunsGoByFrames, Some, Stop, Walk, ap, 
 use Rattle.pac_board_model.proofs.Common.{if◌then◌else◌, moment_with_inputs, most_ticks, nat_le, next_frame, onward_if, play_step}
 use Rattle.pac_board_model.proofs.Common.{power_on_moment, refl, rules, step, suc, trace, true, walk, walk_onward, walk_to, with_frame}
 use Rattle.pac_board_model.proofs.Common.{zero, ℕ, ◌*◌, ◌+◌, ◌<◌, ◌∙◌, ◌≡◌, ◌≤◌}
-use Rattle.pac_board_model.proofs.Walks.{stopped-has-ended, open-is-late, going-far, ended-same}
-use Rattle.pac_board_model.proofs.Walks.{walk-ends, walk-to-ends, goes-on, joined, on-the-way, outputs-prefix, step-timely, play-timely}
+use Rattle.pac_board_model.proofs.Walks.{ended-same, goes-on, going-far, joined, on-the-way, open-is-late, outputs-prefix, play-timely}
+use Rattle.pac_board_model.proofs.Walks.{step-timely, stopped-has-ended, walk-ends, walk-to-ends}
 
 -- ---- a run ends
 

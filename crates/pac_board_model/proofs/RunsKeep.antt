@@ -4,11 +4,10 @@ use Rattle.pac_board_model.proofs.Common.{Action, Blank, Bool, CpuStep, Ends, En
 use Rattle.pac_board_model.proofs.Common.{Questions, Sample, Show, Sound, StepKind, StepProgress, Stop, Vector, Walk, Write, []}
 use Rattle.pac_board_model.proofs.Common.{after_cpu_step, append-nil, arith, at_moment, blank_event, common_steps, cpu_step, false, fold}
 use Rattle.pac_board_model.proofs.Common.{frame_ticks, give, hidden_lines, if◌then◌else◌, line_event, line_ticks, nat_le, nat_tests}
-use Rattle.pac_board_model.proofs.Common.{next_with_inputs, note, onward_if, play_step, put_actions, put_kind, refl, reset_event}
-use Rattle.pac_board_model.proofs.Common.{resumed_at, rules, run_at, sample_event, sample_ticks, scan_frame, scan_line, step, suc}
-use Rattle.pac_board_model.proofs.Common.{surroundings, through, true, walk, walk_after_step, write_place, zero, ℕ, ◌%◌, ◌&&◌, ◌++◌, ◌+◌}
-use Rattle.pac_board_model.proofs.Common.{◌-◌, ◌/◌, ◌==◌, ◌∷◌, ◌≡◌, ◌≢◌}
-use Rattle.pac_cpu.specs.Action.{Write as Written, Output as Sent}
+use Rattle.pac_board_model.proofs.Common.{next_with_inputs, note, onward_if, play_step, put_actions, refl, reset_event, resumed_at, rules}
+use Rattle.pac_board_model.proofs.Common.{run_at, sample_event, sample_ticks, scan_frame, scan_line, step, suc, surroundings, through, true}
+use Rattle.pac_board_model.proofs.Common.{walk, walk_after_step, write_place, zero, ℕ, ◌%◌, ◌&&◌, ◌++◌, ◌+◌, ◌-◌, ◌/◌, ◌==◌, ◌∷◌, ◌≡◌, ◌≢◌}
+use Rattle.pac_cpu.specs.Action.{Output as Sent, Write as Written}
 
 -- whether an entry is none of the three that the clock makes
 abbrev pub is_quiet : Entry → Bool
@@ -42,7 +41,6 @@ module _ {Board : Type 0} (ask : Questions Board) (Holds : StepProgress Board �
       → Holds (line_event ask moment met)
   lined-holds at_one elsewhere = grind (arith, common_steps)
 
-module _ {Board : Type 0} (ask : Questions Board) (Holds : StepProgress Board → Type 0) (moment : ℕ) (met : StepProgress Board) where
   pub blanked-holds : (moment % frame_ticks ≡ 0 → Holds (with_picture ask moment met)
       × Holds (reset_event ask (with_picture ask moment met)))
       → (moment % frame_ticks ≢ 0 → Holds met) → Holds (blank_event ask moment met)
@@ -56,10 +54,6 @@ module _ {Board : Type 0} (ask : Questions Board) (Told : ℕ → List Output �
     (moves : (time moment : ℕ) (given : List Output) (met : StepProgress Board) → moment ≡ suc time →
     Told time (given ++ met.outputs) met.board
     → Told moment (given ++ (at_moment ask moment met).outputs) (at_moment ask moment met).board) where
-  port-told : (time : ℕ) (given : List Output) (board : Board) (byte : ℕ) (wired : Bool) → Told time given board
-      → Told time given (fold ask.put board (if wired then Vector byte ∷ [] else []))
-  port-told time given board byte wired told = grind (arith, common_steps)
-
   actions-told : (time : ℕ) (given : List Output) (board : Board) (actions : List Action) → Told time given board
       → Told time given (put_actions ask board actions)
   actions-told time given board [] told = told
@@ -67,12 +61,7 @@ module _ {Board : Type 0} (ask : Questions Board) (Told : ℕ → List Output �
       actions-told time given (ask.put board (Write (write_place at) byte)) actions
       (quiet time given board (Write (write_place at) byte) refl told)
   actions-told time given board (Sent port byte ∷ actions) told =
-      actions-told time given (fold ask.put board (if port == 0 then Vector byte ∷ [] else [])) actions
-      (port-told time given board byte (port == 0) told)
-
-  kind-told : (time : ℕ) (given : List Output) (board : Board) (kind : StepKind) → Told time given board
-      → Told time given (put_kind ask board kind)
-  kind-told time given board kind told = grind (arith, common_steps)
+      actions-told time given (fold ask.put board (if port == 0 then Vector byte ∷ [] else [])) actions (grind (arith, common_steps))
 
   through-told : (time ticks : ℕ) (given : List Output) (met : StepProgress Board) → Told time (given ++ met.outputs) met.board
       → Told (time + ticks) (given ++ (through ask time ticks met).outputs) (through ask time ticks met).board
@@ -82,21 +71,19 @@ module _ {Board : Type 0} (ask : Questions Board) (Told : ℕ → List Output �
       moves (time + ticks) (time + suc ticks) given (through ask time ticks met) next (through-told time ticks given met told)
 
   -- what a step comes to keeps it
-  NextTold : List Output → Next Board → Type 0
+  abbrev NextTold : List Output → Next Board → Type 0
   NextTold given (Goes now outputs kind) = Told now.time (given ++ outputs) now.board
   NextTold given (Ends stop) = Unit {0}
 
   cpu-step-told : (now : Moment Board) (given : List Output) (h : CpuStep) → Told now.time given now.board
       → NextTold given (after_cpu_step ask now h)
-  unfolding NextTold
-  cpu-step-told now given h told = search (rules, actions-told, append-nil, kind-told, through-told)
+  cpu-step-told now given h told = search (rules, actions-told, append-nil, through-told)
 
   -- so a step goes on to where it is kept, or stops
   pub step-told-then : {C : Type 0} (now : Moment Board) (given : List Output) → Told now.time given now.board
       → ((after : Moment Board) (outputs : List Output) (kind : StepKind) → step ask now ≡ Goes after outputs kind
       → Told after.time (given ++ outputs) after.board → C)
       → ((stop : Stop) → step ask now ≡ Ends stop → C) → C
-  unfolding NextTold
   step-told-then {C = C} now given told goes_on ends =
       let part = cpu_step (surroundings ask now.board) now.regs (ask.request now.board) in
       choose (step ask now) refl (cpu-step-told now given part told)
@@ -107,25 +94,20 @@ module _ {Board : Type 0} (ask : Questions Board) (Told : ℕ → List Output �
 
   played-told : (held : ℕ → ℕ) (time : ℕ) (given : List Output) (h : Next Board) → NextTold given h
       → NextTold given (next_with_inputs ask held time h)
-  unfolding NextTold
-  played-told held time given h told = grind (arith, NextTold)
+  played-told held time given h told = grind (arith, common_steps)
 
-  WalkTold : Walk Board → Type 0
+  abbrev WalkTold : Walk Board → Type 0
   WalkTold w = Told w.now.time w.outputs w.now.board
 
   step-told : (w : Walk Board) (h : Next Board) → NextTold w.outputs h → WalkTold w → WalkTold (walk_after_step w h)
-  unfolding NextTold WalkTold
-  step-told w (Goes now outputs kind) next told = next
-  step-told w (Ends stop) next told = told
+  step-told w h next told = search rules
 
   module _ (next : Moment Board → Next Board) (limit : ℕ)
       (kept : (now : Moment Board) (given : List Output) → Told now.time given now.board → NextTold given (next now)) where
     onward-told : (w : Walk Board) (stop : Option Stop) (late : Bool) → WalkTold w → WalkTold (onward_if next w stop late)
-    unfolding WalkTold
     onward-told w stop late told = search (rules, kept, step-told)
 
     walk-kept : (from : Moment Board) (n : ℕ) → Told from.time [] from.board → WalkTold (walk next limit from n)
-    unfolding WalkTold
     walk-kept from zero told = told
     walk-kept from (suc n) told =
         let w = walk next limit from n in onward-told w w.stop (nat_le limit w.now.time) (walk-kept from n told)
@@ -134,7 +116,6 @@ module _ {Board : Type 0} (ask : Questions Board) (Told : ℕ → List Output �
   pub walk-told : (held : ℕ → ℕ) (limit : ℕ) (from : Moment Board) (n : ℕ) → Told from.time [] from.board
       → let w = walk (play_step ask held) limit from n in
       Told w.now.time w.outputs w.now.board
-  unfolding WalkTold
   walk-told held limit from n told =
       walk-kept (play_step ask held) limit
       (λ now given told. played-told held now.time given (step ask now) (cpu-step-told now given _ told)) from n told
@@ -143,7 +124,6 @@ module _ {Board : Type 0} (ask : Questions Board) (Told : ℕ → List Output �
   pub plain-walk-told : (limit : ℕ) (from : Moment Board) (n : ℕ) → Told from.time [] from.board
       → let w = walk (step ask) limit from n in
       Told w.now.time w.outputs w.now.board
-  unfolding WalkTold
   plain-walk-told limit from n told = walk-kept (step ask) limit (λ now given told. cpu-step-told now given _ told) from n told
 
   -- and so do a run and a play that is taken up

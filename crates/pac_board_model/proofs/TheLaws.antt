@@ -1,13 +1,9 @@
 -- The laws, by the files of src/laws that state them.
 use Rattle.pac_board_model.proofs.Agreed.{runs-agree}
-use Rattle.pac_board_model.proofs.Composing.{lines-timed}
-use Rattle.pac_board_model.proofs.FrameSamples.{frames-sampled}
+use Rattle.pac_board_model.proofs.HostKeeps.{hosts-are-line-exact, lines-placed, lines-timed, pictures-are-line-exact}
+use Rattle.pac_board_model.proofs.Outputs.{frames-sampled, outputs-of-history, resumed-outputs}
 use Rattle.pac_board_model.proofs.HostCarried.{hosts-agree, steps-agree}
-use Rattle.pac_board_model.proofs.HostKeeps.{hosts-are-line-exact}
-use Rattle.pac_board_model.proofs.LinesComposed.{pictures-are-line-exact}
-use Rattle.pac_board_model.proofs.LinesPlaced.{lines-placed}
 use Rattle.pac_board_model.proofs.MemoryAlone.{memory-decides}
-use Rattle.pac_board_model.proofs.Outputs.{outputs-of-history, resumed-outputs}
 use Rattle.pac_board_model.proofs.Resumed.{plays-join, runs-are-continued, runs-begin}
 use Rattle.pac_board_model.proofs.Runs.{runs-are-joined, runs-end, runs-go-by-frames}
 use Rattle.pac_board_model.proofs.Told.{view-answers, view-tells}

@@ -1,13 +1,7 @@
 pub mod Common
 pub mod Walks
 pub mod LiveHandle
-pub mod LiveMade
-pub mod LiveRun
 pub mod LiveSteps
-pub mod LiveTaken
 pub mod LiveBoards
-pub mod UntilPasses
-pub mod UntilGiven
-pub mod UntilAsked
 pub mod UntilEnds
 pub mod Cuts

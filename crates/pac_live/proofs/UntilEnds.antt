@@ -1,49 +1,155 @@
--- How a board goes on until something ends it, put together from what its parts say.
+-- How a board goes on until something ends it, put together from what its parts say: where its steps began, how much they gave, what was
+-- due,
+-- and the addresses that a host hands in.
 use Rattle.pac_live.proofs.Common.{Access, AtAccess, AtPlace, AtStop, BoardPasses, BoardValue, BoardView, BoardWatched, Bool, BufferFull}
-use Rattle.pac_live.proofs.Common.{Cut, Ended, EndsBy, HasComeTo, HasGoneUntil, HasMet, IsGone, IsHeld, IsOfferRefused, List, None, Option}
-use Rattle.pac_live.proofs.Common.{Output, PassesPlaces, Show, Sound, Sounds, Stop, TimeOver, TookAll, Walk, WalksBy, WalksOn, WentBy, []}
-use Rattle.pac_live.proofs.Common.{ap, append-nil, are-written, arith, board_after_walk, by, by_view, cut-after, cut-along, due_outputs}
-use Rattle.pac_live.proofs.Common.{ended-whole, false, inl, inr, is_stop, late-has-ended, length, met-nothing, nat_lt, nat_tests, not-both}
-use Rattle.pac_live.proofs.Common.{nothing_due, refl, run-later, sounding_refused, sounding_took, sounds-append, step, step-timely}
-use Rattle.pac_live.proofs.Common.{steps_counted, subst, suc, sym, took-both, true, walk_at_start, way, way_at, with_due, zero, ℕ, ℤ, ◌++◌}
-use Rattle.pac_live.proofs.Common.{◌+◌, ◌-◌, ◌<◌, ◌^◌, ◌∙◌, ◌∷◌, ◌≡◌, ◌≢◌, ◌≤◌}
-use Rattle.pac_board_model.specs.Output.{sound_count}
-use Rattle.pac_live.proofs.UntilPasses.{none-passed, passes-there}
+use Rattle.pac_live.proofs.Common.{Cut, Ended, EndsBy, HasComeTo, HasGoneUntil, HasMet, Image, IsGone, IsGoneOn, IsMap, IsOfferRefused}
+use Rattle.pac_live.proofs.Common.{IsTimely, List, Moment, None, Option, Output, PacUntil, PassesPlaces, Show, Some, Sound, Sounds, Stop}
+use Rattle.pac_live.proofs.Common.{TimeOver, TookAll, Walk, WalksBy, WalksOn, WentBy, [], ap, append-nil, are-written, arith}
+use Rattle.pac_live.proofs.Common.{board_after_walk, by, by_view, cut-after, cut-along, due_outputs, due_with, ended-whole, false, image_of}
+use Rattle.pac_live.proofs.Common.{inl, inr, is_some, is_stop, late-has-ended, length, met-nothing, not-both, nothing_due, picture_count}
+use Rattle.pac_live.proofs.Common.{pictures-append, refl, rules, run-later, sound_count, sounding_refused, sounding_took, sounds-append}
+use Rattle.pac_live.proofs.Common.{step, step-timely, steps_counted, subst, suc, sym, took-both, true, walk-below, walk_at_start}
+use Rattle.pac_live.proofs.Common.{walks-are-timed, watch_map, way, way_at, with_due, zero, ℕ, ℤ, ◌&&◌, ◌++◌, ◌+◌, ◌-◌, ◌<◌, ◌^◌, ◌||◌, ◌∙◌}
+use Rattle.pac_live.proofs.Common.{◌∷◌, ◌≡◌, ◌≢◌, ◌≤◌}
+use Rattle.pac_board.proofs.Common.{going-far}
+use Rattle.pac_live.proofs.LiveSteps.{few-due}
+use Rattle.pac_board.proofs.Noted.{walk-stepped}
+use mathlib.Core.Path.{transport}
+use Rattle.pac_board.proofs.Walks.{going-yet}
 
--- ---- a full buffer
+-- ---- where its steps began
 
-pub record IsFull (sink : Sounds) (taken left : List Output) (later : Sounds) : Type 0 where
-  pub took : TookAll sounding_took sink taken later
-  pub sample : ℤ
-  pub others : List Output
-  pub left_is : left ≡ Sound sample ∷ others
-  pub full : sound_count taken ≡ length sink.samples.now
+-- no step but the first began where it was to stop
+passes-there : (stops : Option (List ℕ)) (old new : BoardValue) (limit m : ℕ) → new.state.now ≡ (way_at old limit m).now
+    → BoardPasses stops old new → (n : ℕ) → 0 < n → old.state.now.steps + n < new.state.now.steps
+    → is_stop stops (way_at old limit n).now.regs.pc ≡ false
+passes-there stops old new limit m is passed n some fewer =
+    let next = step (by_view old.set) in
+    let timely : (now : Moment BoardView) → IsTimely now (next now) = step-timely (by_view old.set) in
+    let going = going-yet next limit timely old.state.now n m (rw is at fewer) in
+    let walked = walk-stepped next limit old.state.now timely n in
+    let count : walked.count ≡ n = omega (arith, walked.steps, (going-far next limit timely old.state.now n going).steps) in
+    rw (walked.now, count) (passed n some fewer)
+
+-- no step was done
+none-passed : (here : ℕ → Bool) (limit : ℕ) (old new : BoardValue) → new.state.now.steps ≡ old.state.now.steps
+    → PassesPlaces here limit old new
+none-passed here limit old new steps =
+    record { first = λ some fewer. absurd (omega (arith, steps, fewer)); others = λ n some fewer. absurd (omega (arith, steps, fewer)) }
+
+-- ---- how much it gives, and where it is then
+
+-- however it ended, the board is on the way to the limit or to an earlier time
+pub record IsAlong (limit : ℕ) (old : BoardValue) (given : List Output) (new : BoardValue) : Type 0 where
+  pub end : ℕ
+  pub within : end ≤ limit
+  pub tries : ℕ
+  pub board : new ≡ with_due (board_after_walk old (way_at old end tries)) new.state.due
+  pub parts : due_outputs old ++ (way_at old end tries).outputs ≡ given ++ due_outputs new
+
+come-along : {ended : Ended} {here : ℕ → Bool} {limit : ℕ} {stop : Option Stop} {met : Option Access} {new : BoardValue} (old : BoardValue)
+    (given : List Output) → HasComeTo ended here limit old given stop met new → IsAlong limit old given new
+come-along old given went = record {
+  end = went.end;
+  within = went.within;
+  tries = went.end;
+  board =
+      went.board ∙ ap (λ (b : BoardValue). with_due (board_after_walk old (way old went.end)) b.state.due) (sym went.board);
+  parts = sym went.given_is ∙ sym (append-nil given) ∙ ap (λ (b : BoardValue). given ++ due_outputs b) (sym went.board);
+}
+
+pub along : (ended : Ended) (here : ℕ → Bool) (limit room : ℕ) (old : BoardValue) (given : List Output) (stop : Option Stop)
+    (met : Option Access) (new : BoardValue) → WentBy ended here limit room old given stop met new → IsAlong limit old given new
+along BufferFull here limit room old given stop met new went =
+    let is = went.0 in record { end = limit; within = omega arith; tries = is.steps; board = is.board; parts = is.outputs }
+along TimeOver here limit room old given stop met new went = come-along old given went
+along AtPlace here limit room old given stop met new went = come-along old given went
+along AtStop here limit room old given stop met new went = come-along old given went
+along AtAccess here limit room old given stop met new went = come-along old given went
+
+-- so it gives few samples and few pictures
+pub few-given : {limit : ℕ} {old new : BoardValue} {given : List Output} → IsAlong limit old given new → limit ≤ old.state.now.time + 2 ^ 32
+    → (sound_count given ≤ 2 ^ 28) × (picture_count given ≤ 2 ^ 28)
+few-given {limit} {old} {new} {given} is soon =
+    let w = way_at old is.end is.tries in
+    let timed = walks-are-timed (by_view old.set) is.end is.tries old.state.now in
+    let timely : (now : Moment BoardView) → IsTimely now (step (by_view old.set) now) = step-timely (by_view old.set) in
+    let near =
+    walk-below (step (by_view old.set)) is.end timely (old.state.now.time + 2 ^ 32 + 24) (omega (arith, is.within, soon)) old.state.now
+    is.tries
+    (omega arith) in
+    let due = few-due old in (
+      omega (
+        arith,
+        ap sound_count is.parts,
+        sounds-append given (due_outputs new),
+        sounds-append (due_outputs old) w.outputs,
+        due.0,
+        timed.samples,
+        near,
+      ),
+      omega (
+        arith,
+        ap picture_count is.parts,
+        pictures-append given (due_outputs new),
+        pictures-append (due_outputs old) w.outputs,
+        due.1,
+        timed.pictures,
+        near,
+      ),
+    )
+
+-- ---- whether something is due
+
+none-of : (sample : Option ℤ) (picture : Bool) (image : Image) → (is_some sample || picture) ≡ false
+    → due_with image (record { sample = sample; picture = picture }) ≡ []
+none-of sample picture image e = search rules
+
+some-of : (sample : Option ℤ) (picture : Bool) (image : Image) → (is_some sample || picture) ≡ true
+    → due_with image (record { sample = sample; picture = picture }) ≢ []
+some-of sample picture image e = grind arith
+
+abbrev pub something_due : BoardValue → Bool
+something_due board = is_some board.state.due.sample || board.state.due.picture
+
+-- it is where it ends at once
+pub due-there : (board : BoardValue) (is_due stands : Bool) → is_due ≡ something_due board → (is_due && stands) ≡ true
+    → (due_outputs board ≢ []) × (stands ≡ true)
+due-there board true stands is both =
+    (some-of board.state.due.sample board.state.due.picture (image_of board.set board.state.now.board.lines) (sym is), both)
+due-there board false stands is both = not-both (sym both)
+
+-- and isn't where it goes on
+pub due-elsewhere : (board : BoardValue) (is_due stands : Bool) → is_due ≡ something_due board → (is_due && stands) ≡ false
+    → due_outputs board ≢ [] → stands ≡ false
+due-elsewhere board true stands is both some = both
+due-elsewhere board false stands is both some =
+    absurd (some (none-of board.state.due.sample board.state.due.picture (image_of board.set board.state.now.board.lines) (sym is)))
+
+-- ---- by the set that a host hands in, and the time
+
+pub gone-same : {here there : ℕ → Bool} {marks map : Option (List ℕ)} {limit other : ℕ} {old new : BoardValue} {samples after : List ℤ}
+    {told : PacUntil} → ((address : ℕ) → here address ≡ there address) → marks ≡ map → limit ≡ other
+    → IsGoneOn here marks limit old samples new after told → IsGoneOn there map other old samples new after told
+gone-same {old = old} {new = new} {samples = samples} {after = after} {told = told} same watched is gone =
+    transport (λ i. IsGoneOn (λ address. same address i) (watched i) (is i) old samples new after told) gone
+
+-- the map that is handed in, where it has bytes
+pub some-map : (bytes : List ℕ) → IsMap bytes → length bytes ≢ 0 → (length bytes ≡ 65536) × (watch_map bytes ≡ Some bytes)
+some-map [] is some = absurd (some refl)
+some-map (first ∷ others) (inl none) some = absurd (some none)
+some-map (first ∷ others) (inr long) some = (long, refl)
+
+pub no-map : (bytes : List ℕ) → length bytes ≡ 0 → watch_map bytes ≡ None
+no-map [] none = refl
+no-map (first ∷ others) none = absurd (omega (arith, none))
+
+-- ---- the parts
 
 refused-sample : (first : Output) (asked later : Sounds) → sounding_refused asked first later
     → (sample : ℤ) × (first ≡ Sound sample) × (length asked.samples.now ≤ asked.taken) × (later ≡ asked)
 refused-sample (Sound sample) asked later refusal = (sample, refl, refusal.0, refusal.1)
 refused-sample (Show image) asked later refusal = absurd refusal
-
-is-full : {outputs left : List Output} (sink later : Sounds) → sink.taken ≡ 0 → sink.pictures ≡ 0
-    → (cut : Cut (by sounding_took sounding_refused) sink outputs left later) → IsFull sink cut.taken left later
-is-full {outputs} {left} sink later none no_picture cut =
-    let refuses = cut.refuses in
-    let one = refused-sample refuses.first refuses.asked later refuses.refusal in
-    let written = are-written cut.taken sink refuses.asked (omega (arith, none)) (omega (arith, no_picture)) refuses.before in
-    record {
-      took = subst (λ (s : Sounds). TookAll sounding_took sink cut.taken s) (sym one.3) refuses.before;
-      sample = one.0;
-      others = refuses.rest;
-      left_is = refuses.left_is ∙ ap (λ (first : Output). first ∷ refuses.rest) one.1;
-      full = omega (arith, written.taken, written.room, written.size, one.2, none);
-    }
-
--- fewer sounds than with more after them
-fewer-sounds : (due one more whole : List Output) → one ++ more ≡ whole → sound_count (due ++ one) ≤ sound_count (due ++ whole)
-fewer-sounds due one more whole is =
-    omega (arith, ap sound_count is, sounds-append one more, sounds-append due one, sounds-append due whole)
-
--- ---- the parts
 
 -- the board where a walk begins, with something else due
 at-start : (old : BoardValue) → old.made < 2 ^ 64 → board_after_walk old (walk_at_start old.state.now) ≡ with_due old nothing_due
@@ -72,22 +178,25 @@ module _ (stops marks : Option (List ℕ)) (limit : ℕ) (old : BoardValue) (sin
         → ((n : ℕ) → steps ≡ suc n → sound_count (due_outputs old ++ (way_at old limit n).outputs) ≤ sound_count cut.taken)
         → PassesPlaces (is_stop stops) limit old new → HasMet marks old new met → Gone BufferFull stop met new later
     filled {new} {later} steps none_met board all_steps cut before passes watched =
-        let is = is-full sink later none no_picture cut in
+        let refuses = cut.refuses in
+        let one = refused-sample refuses.first refuses.asked later refuses.refusal in
+        let written = are-written cut.taken sink refuses.asked (omega (arith, none)) (omega (arith, no_picture)) refuses.before in
+        let full : sound_count cut.taken ≡ length sink.samples.now = omega (arith, written.taken, written.room, written.size, one.2, none)
+        in
         record {
           given = cut.taken;
-          took = is.took;
+          took = rw one.3 refuses.before;
           went = (
             record {
               steps = steps;
               board = board;
               all_steps = all_steps;
               outputs = cut.parts;
-              sample = is.sample;
-              others = is.others;
-              left = is.left_is;
-              full = is.full;
-              before = λ n same.
-                  subst (λ room. sound_count (due_outputs old ++ (way_at old limit n).outputs) ≤ room) is.full (before n same);
+              sample = one.0;
+              others = refuses.rest;
+              left = refuses.left_is ∙ ap (λ first. first ∷ refuses.rest) one.1;
+              full = full;
+              before = λ n same. omega (arith, full, before n same);
               passes = passes;
             },
             none_met,
@@ -151,33 +260,21 @@ module _ (stops marks : Option (List ℕ)) (limit : ℕ) (old : BoardValue) (sin
           ends = ends;
         }
 
-        took-all : (gone : Until) → TookAll sounding_took sink (due_outputs old ++ (way old gone.end).outputs) later
-        took-all gone = took-both sounding_took (due_outputs old) (way old gone.end).outputs sink between later taken gone.gone.sink_is
-
         -- it ended by the time where it isn't at such an address
         whole-time : (gone : Until) → met ≡ None → (old.state.now.time < new.state.now.time → is_stop stops new.state.now.regs.pc ≡ false)
             → gone.end ≡ limit
-        whole-time gone unmet nowhere = here (nat_lt gone.end limit) refl
-          where
-            here : (b : Bool) → nat_lt gone.end limit ≡ b → gone.end ≡ limit
-            here true e =
-                let early : gone.end < limit = grind (arith, nat_tests) in
-                let there = subst (λ (met : Option Access). IsHeld stops gone.end met stop new) unmet (gone.early early) in
-                let time = there.time_is in
-                let later = run-later gone.gone in
-                let on = gone.some (omega (arith, early, time, later)) in
-                not-both (sym there.here ∙ nowhere (omega (arith, on, time)))
-            here false e =
-                let within = gone.within in
-                let late : limit ≤ gone.end = grind (arith, nat_tests) in
-                omega (arith, within, late)
+        whole-time gone unmet nowhere =
+            let not_early : gone.end < limit → ⊥ = λ early.
+            let there = rw unmet at (gone.early early) in
+            not-both (sym there.here ∙ nowhere (omega (arith, early, there.time_is, run-later gone.gone, gone.some))) in
+            omega (arith, gone.within, not_early)
 
         gone-by : (ended : Ended) (gone : Until)
             → WentBy ended (is_stop stops) limit (length sink.samples.now) old (due_outputs old ++ (way old gone.end).outputs) stop met new
             → Gone ended stop met new later
         gone-by ended gone went = record {
           given = due_outputs old ++ (way old gone.end).outputs;
-          took = took-all gone;
+          took = took-both sounding_took (due_outputs old) (way old gone.end).outputs sink between later taken gone.gone.sink_is;
           went = went;
           watched = watched;
         }
@@ -196,10 +293,14 @@ module _ (stops marks : Option (List ℕ)) (limit : ℕ) (old : BoardValue) (sin
         walked BufferFull walks =
             let refused = walks.0 in
             let due = due_outputs old in
-            filled refused.steps walks.1 refused.board refused.all_steps (cut-after due sink between later taken refused.cut)
-            (λ n same.
-            let front = refused.of_last n same in
-            fewer-sounds due (way_at old limit n).outputs front.0 refused.cut.taken front.1)
+            let of_last = λ (n : ℕ) (same : refused.steps ≡ suc n).
+            let before = refused.of_last n same in
+            let one = (way_at old limit n).outputs in
+            let whole : sound_count (due ++ one) ≤ sound_count (due ++ refused.cut.taken)
+            = omega (arith, ap sound_count before.1, sounds-append one before.0, sounds-append due one, sounds-append due refused.cut.taken)
+            in
+            whole in
+            filled refused.steps walks.1 refused.board refused.all_steps (cut-after due sink between later taken refused.cut) of_last
             (passes-by limit refused.steps (ap (λ (b : BoardValue). b.state.now) refused.board)) watched
 
     pub went-on : {mid new : BoardValue} {between later : Sounds} {ended : Ended} {stop : Option Stop} {met : Option Access}

@@ -1,7 +1,6 @@
 -- The answer is the board's, and the next frame's inputs are held where it has ended.
 use Rattle.pac_board_course.proofs.Common.{CourseValue, board_with_inputs, by, frame_end, inl, inr, min, refl, rules, ◌<◌, ◌≡◌, ◌≤◌}
-use Rattle.pac_board_course.proofs.Answered.{next_mask}
-use Rattle.pac_board_course.proofs.Strode.{gone-told}
+use Rattle.pac_board_course.proofs.Framed.{next_mask, gone-told}
 use Rattle.pac_board_course.proofs.road.go.Goals as goal
 
 pub returns-then-time-blank : goal.returns-then-time-blank

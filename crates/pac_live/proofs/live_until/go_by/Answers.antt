@@ -1,7 +1,6 @@
 -- The map, if bytes of one are handed in.
-use Rattle.pac_live.proofs.Common.{IsGoneOn, List, Option, Some, ap, arith, is_stop, length, nat_tests, subst, sym, take_all, ℕ, ◌∙◌, ◌≡◌}
-use Rattle.pac_live.proofs.Common.{◌≢◌}
-use Rattle.pac_live.proofs.UntilAsked.{no-map, some-map}
+use Rattle.pac_live.proofs.Common.{Some, ap, arith, length, nat_tests, refl, sym, take_all, ◌∙◌, ◌≡◌, ◌≢◌}
+use Rattle.pac_live.proofs.UntilEnds.{gone-same, no-map, some-map}
 use Rattle.pac_live.proofs.live_until.go_by.Goals as goal
 
 pub chunk-requires : goal.chunk-requires
@@ -15,8 +14,7 @@ pub returns-then-is_empty : goal.returns-then-is_empty
 returns-then-is_empty c =
     let tested = sym c.is_empty.ensures ∙ c.if-is_empty.true in
     let none : length c.args.watched.now ≡ 0 = grind (arith, nat_tests) in
-    subst (λ (marks : Option (List ℕ)). IsGoneOn (is_stop c.args.stops.now) marks c.args.limit c.args.board.now c.args.samples.now
-    c.go_told.new.board c.go_told.new.samples c.go_told.result) (sym (no-map c.args.watched.now none)) c.go_told.ensures
+    gone-same (λ address. refl) (sym (no-map c.args.watched.now none)) refl c.go_told.ensures
 
 pub returns : goal.returns
 returns c =
@@ -25,6 +23,4 @@ returns c =
     let map = some-map c.args.watched.now c.requires.map some in
     let long = map.0 in
     let whole = c.chunk.ensures ∙ take_all 65536 c.args.watched.now (omega (arith, long)) in
-    subst (λ (marks : Option (List ℕ)). IsGoneOn (is_stop c.args.stops.now) marks c.args.limit c.args.board.now c.args.samples.now
-    c.go_told-2.new.board c.go_told-2.new.samples c.go_told-2.result) (ap Some (c.new-watch.ensures.marks ∙ whole) ∙ sym map.1)
-    c.go_told-2.ensures
+    gone-same (λ address. refl) (ap Some (c.new-watch.ensures.marks ∙ whole) ∙ sym map.1) refl c.go_told-2.ensures

@@ -1,8 +1,7 @@
 -- What was due is given first.
 use Rattle.pac_live.proofs.Common.{BoardState, BoardValue, IsOfferRefused, TookAll, [], ap, by, due_outputs, false, is_stop, nothing_due}
 use Rattle.pac_live.proofs.Common.{rules, sounding_refused, sounding_took, sym, with_due, ◌<◌, ◌^◌, ◌∙◌, ◌≡◌, ◌≢◌}
-use Rattle.pac_live.proofs.UntilAsked.{due-elsewhere, due-there, something_due}
-use Rattle.pac_live.proofs.UntilEnds.{at-once, offer-full, went-on}
+use Rattle.pac_live.proofs.UntilEnds.{at-once, due-elsewhere, due-there, offer-full, something_due, went-on}
 use Rattle.pac_live.proofs.live_until.go_on.Goals as goal
 
 pub returns-then-is_err : goal.returns-then-is_err

@@ -1,5 +1,5 @@
 -- A single step is the first of a stretch.
-use Rattle.pac_board.proofs.Singles.{step-alone}
+use Rattle.pac_board.proofs.Turns.{step-alone}
 
 pub returns : Rattle.pac_board.proofs.board.Board.do_step.Goals.returns
 returns c =

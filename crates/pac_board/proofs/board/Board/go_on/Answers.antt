@@ -18,11 +18,8 @@ module _ {old new : BoardStanding} {limit : ℕ} {stop : Option Stop} {given : L
     (made : MakesBatch old limit new stop given due) where
   steps-on : old.now.steps ≤ new.now.steps
   steps-on =
-      let timely = λ (now : Moment BoardView). step-timely (by_view old.set) now in
-      let more = walked-after (step (by_view old.set)) limit timely old.now (suc made.tries) in
-      let longer = more.steps in
-      let same = ap (λ (m : Moment BoardView). m.steps) made.now in
-      omega arith
+      let more = walked-after (step (by_view old.set)) limit (step-timely (by_view old.set)) old.now (suc made.tries) in
+      omega (arith, more.steps, ap (λ (m : Moment BoardView). m.steps) made.now)
 
   batch-held : (asked counted since : ℕ) (before : Due) → since ≤ old.now.steps
       → HasBatch (held old asked counted since before) limit stop given (held new asked counted since due)
@@ -47,9 +44,7 @@ module _ {old new : BoardStanding} {limit : ℕ} {stop : Option Stop} {given : L
 
 pub invariant_of-self : goal.invariant_of-self
 invariant_of-self c =
-    let later = steps-on c.make_step-self-inside.ensures in
-    let since = c.self.invariant.since in
-    record { asked = c.self.invariant.asked; since = omega arith }
+    record { asked = c.self.invariant.asked; since = omega (arith, c.self.invariant.since, steps-on c.make_step-self-inside.ensures) }
 
 pub returns-clause-made : goal.returns-clause-made
 returns-clause-made c =

@@ -1,11 +1,10 @@
 -- A stretch of the machine is one of the board.
-use Rattle.pac_board.proofs.Common.{IsNoted, by_view, rules, step}
-use Rattle.pac_board.proofs.Told.{board-noted}
+use Rattle.pac_board.proofs.Common.{BoardStanding, IsNoted, by_view, rules, step, subst, ◌≡◌}
 
 pub returns-clause-told : Rattle.pac_board.proofs.board.Board.make_stretch.Goals.returns-clause-told
 returns-clause-told g c =
-    let old = c.self.inside.machine in
-    let told : IsNoted (step (by_view old.set)) c.args.limit old.now c.stretch.new.self.now c.args.told.now c.stretch.new.told =
-    c.stretch.ensures.told in
-    board-noted c.args.self.now old c.stretch.new.self.now c.args.limit c.args.told.now c.stretch.new.told
-    (search rules) told
+    let old = c.args.self.now in
+    let same : c.self.inside.machine ≡ record { set = old.set; now = old.state.now } = search rules in
+    subst (λ (m : BoardStanding). IsNoted (step (by_view m.set)) c.args.limit m.now c.stretch.new.self.now c.args.told.now
+    c.stretch.new.told)
+    same c.stretch.ensures.told

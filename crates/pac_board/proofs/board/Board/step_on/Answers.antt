@@ -1,6 +1,6 @@
 -- What the step gave was refused in part.
 use Rattle.pac_board.proofs.Common.{TookAll, due_outputs, inr, nothing_due, rules, with_due, ◌≡◌}
-use Rattle.pac_board.proofs.Offered.{step-refused}
+use Rattle.pac_board.proofs.Turns.{step-refused}
 
 pub returns-in-Err : Rattle.pac_board.proofs.board.Board.step_on.Goals.returns-in-Err
 returns-in-Err g c =

@@ -1,17 +1,13 @@
 -- The kind of a step was found before it, and before what was due was offered.
-use Rattle.pac_board.proofs.Common.{IsNextKind, ap, arith, next_of, rules, told_once, ℕ, ◌-◌, ◌∙◌}
-use Rattle.pac_machine.specs.Standing.{nothing_due}
-use Rattle.pac_board.proofs.Singles.{is-told, step-short}
+use Rattle.pac_board.proofs.Common.{IsNextKind, ap, next_of, nothing_due, rules, told_once, with_due, ℕ, ◌-◌, ◌∙◌}
+use Rattle.pac_board.proofs.Turns.{is-told, step-short}
 use Rattle.pac_board.proofs.board.Board.step_once.Goals as goal
 
 pub once_told-requires : goal.once_told-requires
 once_told-requires g c =
     let old = c.args.self.now in
-    let short = step-short old c.step_on.new.self nothing_due nothing_due c.in-Ok.ensures.0.board in
-    let later = short.later in
-    let most = short.most in
-    let begun = c.time-begun.ensures.time in
-    record { later = omega arith; most = omega arith }
+    rw c.time-begun.ensures.time
+    (step-short old c.step_on.new.self nothing_due nothing_due c.in-Ok.ensures.0.board)
 
 pub returns-in-Ok : goal.returns-in-Ok
 returns-in-Ok g c =
@@ -25,6 +21,7 @@ returns-in-Ok g c =
       board = done.board;
       once_is =
           c.once_told.ensures ∙ begun
-          ∙ is-told old new c.in-Ok.met c.kind-kind.result nothing_due nothing_due kind done.board c.in-Ok.ensures.1;
+          ∙ is-told (with_due old nothing_due) new c.in-Ok.met c.kind-kind.result nothing_due (next_of old) kind done.board
+          c.in-Ok.ensures.1;
       sink_is = done.sink_is;
     }

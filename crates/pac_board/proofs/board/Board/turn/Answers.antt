@@ -1,6 +1,6 @@
 -- A step, and the offer of what it gave.
 use Rattle.std.proofs.lemmas.Result.{err_from_is_err_and}
-use Rattle.pac_board.proofs.Offered.{turn-left, turn-taken}
+use Rattle.pac_board.proofs.Turns.{turn-left, turn-taken}
 use Rattle.pac_board.proofs.board.Board.turn.Goals as goal
 
 pub returns-in_err-offer : goal.returns-in_err-offer
