@@ -2,12 +2,10 @@
 use Rattle.std.specs.Prelude.{◌≡◌, ◌≢◌, ◌≤◌, ◌<◌, ◌+◌, ◌-◌, ◌^◌, List, ℕ, length, min, ⊤}
 use Rattle.std.specs.Prelude.{Option, None, Some, Result, Ok, Err}
 use Rattle.pac_board.specs.BoardFields.{Fields}
-use Rattle.pac_board.specs.Fields.{state_of, AreBoardFields}
-use Rattle.pac_board.specs.StateLaws.{restored_board}
 use Rattle.pac_board.specs.State.{BoardState, BoardValue, most_asked, time_of}
 use Rattle.pac_board.specs.Stop.{Stop}
 use Rattle.pac_state.specs.Block.{IsBlock}
-use Rattle.pac_state.specs.Framed.{TellsFields, TellsFieldsButLines}
+use Rattle.pac_state.specs.Framed.{TellsFields}
 use Rattle.pac_state.specs.Fronts.{IsFrontOf}
 use Rattle.pac_state.specs.Reading.{state_in}
 use Rattle.pac_block.specs.declared.codes.HostFault.{HostFault}
@@ -23,16 +21,6 @@ HaveLength roms (Err fault) = (length roms ≢ roms_size) × (fault ≡ WrongLen
 abbrev pub OpensBlock : List ℕ → Result Fields HostFault → Type 0
 OpensBlock block (Ok fields) = TellsFields IsBlock block (Some fields)
 OpensBlock block (Err fault) = TellsFields IsBlock block None × (fault ≡ NoBoard)
-
--- the same, but for the lines: it is such a block where they are a picture's
-abbrev pub OpensBlockButLines : List ℕ → Result Fields HostFault → Type 0
-OpensBlockButLines block (Ok fields) = TellsFieldsButLines IsBlock block (Some fields)
-OpensBlockButLines block (Err fault) = TellsFieldsButLines IsBlock block None × (fault ≡ NoBoard)
-
--- a board becomes that of these fields, where their lines are a picture's
-abbrev pub TakesFields : Fields → BoardValue → Result (Unit {0}) HostFault → BoardValue → Type 0
-TakesFields fields old (Ok done) new = AreBoardFields fields × (new ≡ restored_board old (state_of fields))
-TakesFields fields old (Err fault) new = (AreBoardFields fields → ⊥) × (fault ≡ NoBoard)
 
 -- what a block begins with where its board becomes another one that has the same picture, if it is the block of a state
 pub record HasFront (becomes : BoardValue → BoardValue) (block front : List ℕ) : Type 0 where

@@ -2,8 +2,7 @@
 
 ghost use Rattle.std.specs.Prelude.{◌≡◌, Ok, Err, replicate};
 ghost use Rattle.pac_board.specs.Fields.{state_of};
-ghost use Rattle.pac_board.specs.State.{IsInRangeButLines};
-ghost use Rattle.pac_block.specs.Handed.{StopsEarly, OpensBlock, OpensBlockButLines, TakesFields};
+ghost use Rattle.pac_block.specs.Handed.{StopsEarly, OpensBlock};
 ghost use Rattle.pac_block.specs.Host.{IsBlockOf, state_left};
 ghost use Rattle.pac_state.specs.Saved.{file_size};
 
@@ -11,7 +10,7 @@ use crate::codes::HostFault;
 use crate::time::asked_left;
 use pac_board::{Board, Fields, Stop};
 use pac_state::laws::{blocks_are_read_back, boards_have_states, states_have_blocks};
-use pac_state::{read_block, read_block_but_lines, write_block};
+use pac_state::{read_block, write_block};
 
 /// A board, in a host's memory: the text of its state file with zeros in the place of both digests. A plain value, that may be copied, kept
 /// and handed in again. Any bytes may be handed in; those that are no board's state are refused.
@@ -29,28 +28,6 @@ pub fn open(block: &PacBoard) -> Result<Fields<'_>, HostFault>
     match read_block(&block.bytes) {
         Some(fields) => Ok(fields),
         None => Err(HostFault::NoBoard),
-    }
-}
-
-/// The fields in a block, if all but the lines are those of the block of a state.
-pub(crate) fn open_but_lines(block: &PacBoard) -> Result<Fields<'_>, HostFault>
-    ensures { OpensBlockButLines block.now.bytes result }
-{
-    match read_block_but_lines(&block.bytes) {
-        Some(fields) => Ok(fields),
-        None => Err(HostFault::NoBoard),
-    }
-}
-
-/// Puts fields into a board, if their lines are a picture's.
-pub(crate) fn take(machine: &mut Board, fields: &Fields) -> Result<(), HostFault>
-    requires { IsInRangeButLines (state_of fields.now) }
-    ensures { TakesFields fields.now machine.old result machine.new }
-{
-    if machine.take_fields(fields) {
-        Ok(())
-    } else {
-        Err(HostFault::NoBoard)
     }
 }
 

@@ -4,13 +4,13 @@ ghost use Rattle.pac_block.specs.Host as host;
 ghost use Rattle.pac_board.specs.State.{board_after_reset};
 ghost use Rattle.pac_board.specs.Inputs.{mask};
 
-use crate::block::{PacBoard, clear, keep_run, open_but_lines, take};
+use crate::block::{PacBoard, clear, keep_run, open};
 use crate::codes::HostFault;
 use crate::fronts::{holding_front, power_on_front, reset_front};
 use crate::ran::{RanBytes, bytes_of};
-use crate::roms::{check_roms, put_roms};
+use crate::roms::{check_roms, put_all};
 use crate::time::{check, run};
-use pac_board::{Board, Inputs};
+use pac_board::{Board, Fields, Inputs};
 use pac_state::{block_lines, put_front};
 
 /// The board at power-on, with these ROMs and a byte of the DIP switches.
@@ -55,13 +55,13 @@ pub fn exec(
         block.new.bytes samples.new ran.new.bytes }
 {
     check_roms(roms)?;
-    // (made before anything else is looked at, so that the compiler writes its zeros once; and not of a constant byte, with which it has parts
-    // of the board twice on the stack)
-    let mut machine = Board::without_roms(block.bytes[0]);
-    put_roms(&mut machine, roms);
-    let fields = open_but_lines(block)?;
-    take(&mut machine, &fields)?;
+    let fields = open(block)?;
     check(&fields, microseconds, samples.len())?;
+    // (not of a constant byte, with which the compiler has parts of the board twice on the stack; and with the lines as what they are, a part of the
+    // block, and not as `open` found them: so the compiler sees that they aren't the board's own, and writes no zeros below them first)
+    let mut machine = Board::without_roms(block.bytes[0]);
+    let lines = block_lines(&block.bytes);
+    put_all(&mut machine, roms, &Fields { lines, ..fields });
     let (told, stop) = run(&mut machine, microseconds, samples);
     ran.bytes = bytes_of(&told);
     keep_run(&machine, &stop, block);

@@ -2,7 +2,9 @@
 
 ghost use Rattle.std.specs.Prelude.{◌≡◌, ◌≤◌, ◌+◌, length};
 ghost use Rattle.pac_board.specs.BoardView.{video_roms};
+ghost use Rattle.pac_board.specs.Fields.{state_of, AreBoardFields};
 ghost use Rattle.pac_board.specs.RomParts.{IsWhole};
+ghost use Rattle.pac_board.specs.StateLaws.{restored_board};
 ghost use Rattle.pac_board.specs.PartsProofs.{parts_of};
 ghost use Rattle.pac_block.specs.Handed.{HaveLength};
 ghost use Rattle.pac_block.specs.Host as host;
@@ -10,7 +12,7 @@ ghost use Rattle.pac_roms_manifest.specs.Sets.{digest_of};
 ghost use Rattle.pac_state.specs.Reading.{bytes_at_place};
 
 use crate::codes::HostFault;
-use pac_board::{Board, Raw};
+use pac_board::{Board, Fields, Raw};
 use pac_picture::Graphics;
 use sha1::Sha1;
 
@@ -97,6 +99,18 @@ pub(crate) fn graphics_of(roms: &[u8]) -> Graphics
         chunk(roms, 20_480),
         chunk(roms, 24_608),
     )
+}
+
+/// Puts a host's ROMs and a state's fields into a board.
+#[inline(always)]
+pub(crate) fn put_all(machine: &mut Board, roms: &[u8], fields: &Fields)
+    requires roms { length roms.now ≡ host.roms_size }
+    requires in_range { AreBoardFields fields.now }
+    ensures { machine.new ≡ restored_board
+        (record machine.old { set = host.set_of_roms roms.now }) (state_of fields.now) }
+{
+    let (program, raw) = parts(roms);
+    machine.put_all(program, &raw, fields);
 }
 
 /// Puts a host's ROMs into a board.

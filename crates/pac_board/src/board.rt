@@ -64,6 +64,7 @@ impl Board {
     }
 
     /// Takes other ROMs, in place: a program of 16,384 bytes, and the other parts.
+    #[inline(always)]
     pub fn put_roms(&mut self, program: &[u8], raw: &Raw)
         requires { IsWhole (parts_of program.now raw.now) }
         ensures { self.new ≡ record self.old { set = parts_of program.now raw.now } }

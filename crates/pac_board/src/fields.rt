@@ -1,15 +1,16 @@
 //! A board made from its fields, as a save file has them, and told by them.
 
-ghost use Rattle.std.specs.Prelude.{◌≡◌, ◌↔◌, IfOk, IfErr, true};
+ghost use Rattle.std.specs.Prelude.{◌≡◌, IfOk, IfErr};
+ghost use Rattle.pac_map.specs.RomParts.{IsWhole};
+ghost use Rattle.pac_map.specs.PartsProofs.{parts_of};
 ghost use Rattle.pac_board.specs.State.{passed_lines, recomposed_view, with_view};
-ghost use Rattle.pac_board.specs.State.{IsInRangeButLines};
 ghost use Rattle.pac_board.specs.StateLaws.{restored_board};
 ghost use Rattle.pac_machine.specs.Fields.{state_of, AreBoardFields};
 
 use crate::board::Board;
 use crate::fault::InitRefused;
 use pac_machine::Fields;
-use pac_map::RomSet;
+use pac_map::{Raw, RomSet};
 use std::alloc::Global;
 
 impl Board {
@@ -30,29 +31,32 @@ impl Board {
     }
 
     /// Becomes the board that has these fields, each in its range, in place; its ROM set and the count of its steps stay.
+    #[inline(always)]
     pub fn put_fields(&mut self, fields: &Fields)
         requires { AreBoardFields fields.now }
         ensures { self.new ≡ restored_board self.old (state_of fields.now) }
     {
-        self.take_fields(fields);
-    }
-
-    /// Becomes the board that has these fields, in place, if their lines are a picture's, which it answers: they are looked at as they are
-    /// copied. Else nothing is told of what it becomes. Its ROM set and the count of its steps stay.
-    pub fn take_fields(&mut self, fields: &Fields) -> bool
-        requires { IsInRangeButLines (state_of fields.now) }
-        ensures taken { (result ≡ true) ↔ AreBoardFields fields.now }
-        ensures board { result ≡ true → self.new ≡ restored_board self.old (state_of fields.now) }
-    {
-        let made = self.made();
-        if !self.machine.take_fields(fields) {
-            return false;
-        }
-        self.made = made;
+        self.made = self.made();
+        self.machine.put_fields(fields);
         self.since = fields.steps;
         self.asked = fields.asked;
         self.due = fields.due;
-        true
+    }
+
+    /// Becomes the board that has these ROMs, a program of 16,384 bytes and the other parts, and these fields, each in its range, in place: the
+    /// quickest way to fill one that has just been made. The count of its steps stays.
+    #[inline(always)]
+    pub fn put_all(&mut self, program: &[u8], raw: &Raw, fields: &Fields)
+        requires whole { IsWhole (parts_of program.now raw.now) }
+        requires in_range { AreBoardFields fields.now }
+        ensures { self.new ≡ restored_board
+            (record self.old { set = parts_of program.now raw.now }) (state_of fields.now) }
+    {
+        self.made = self.made();
+        self.machine.put_all(program, raw, fields);
+        self.since = fields.steps;
+        self.asked = fields.asked;
+        self.due = fields.due;
     }
 
     /// The fields of the board's state.

@@ -9,6 +9,5 @@ pub mod StopsProofs
 pub mod Watches
 pub mod WatchesProofs
 pub mod Fields
-pub mod FieldsProofs
 pub mod Idle
 pub use Rattle.pac_wave.specs.Wave

@@ -1,18 +1,18 @@
 //! A machine made from the fields of a board, as a save file has them, and told by them.
 
-ghost use Rattle.std.specs.Prelude.{◌≡◌, ◌≤◌, ◌<◌, ◌↔◌, true, length, if◌then◌else◌};
+ghost use Rattle.std.specs.Prelude.{◌≡◌, ◌≤◌, ◌<◌, ◌↔◌, true, length};
 ghost use Rattle.pac_wave.specs.Wave.{Fit20Bits};
 ghost use Rattle.pac_wave.specs.WaveLaws.{accumulators_of_list};
+ghost use Rattle.pac_map.specs.RomParts.{IsWhole};
+ghost use Rattle.pac_map.specs.PartsProofs.{parts_of};
 ghost use Rattle.pac_machine.specs.Standing.{most_asked, passed_lines, recomposed_view};
-ghost use Rattle.pac_machine.specs.Standing.{IsInRangeButLines};
 ghost use Rattle.pac_machine.specs.Fields.{moment_of, state_of, AreBoardFields};
-ghost use Rattle.pac_machine.specs.FieldsProofs.{blackened};
 
 use crate::due::Due;
 use crate::machine::Machine;
 use crate::timing::passed_lines;
 use pac_cpu::{Cpu, Regs};
-use pac_map::Memory;
+use pac_map::{Memory, Raw};
 use pac_picture::{RawLines, is_picture};
 use pac_wave::Wave;
 
@@ -51,9 +51,9 @@ const LATEST_END: u64 = (1 << 52) + 22;
 pub const MOST_ASKED: u64 = 1 << 50;
 
 impl Fields<'_> {
-    /// Whether each of these fields is in its range but, maybe, the lines.
-    pub fn are_but_lines_in_range(&self) -> bool
-        ensures { (result ≡ true) ↔ IsInRangeButLines (state_of self.now) }
+    /// Whether a board can have these fields: each is in its range.
+    pub fn are_in_range(&self) -> bool
+        ensures { (result ≡ true) ↔ AreBoardFields self.now }
     {
         self.memory.are_in_range()
             && self.memory.count < 16
@@ -61,43 +61,54 @@ impl Fields<'_> {
             && self.steps <= self.time / 4
             && self.time <= LATEST_END
             && self.asked <= MOST_ASKED
-    }
-
-    /// Whether a board can have these fields: each is in its range.
-    pub fn are_in_range(&self) -> bool
-        ensures { (result ≡ true) ↔ AreBoardFields self.now }
-    {
-        self.are_but_lines_in_range() && is_picture(self.lines)
+            && is_picture(self.lines)
     }
 }
 
 impl Machine {
     /// Becomes the machine of these fields, in place; its ROM set stays.
+    #[inline(always)]
     pub fn put_fields(&mut self, fields: &Fields)
         requires { AreBoardFields fields.now }
         ensures { self.new ≡ record { set = self.old.set; now = moment_of fields.now } }
     {
-        self.take_fields(fields);
+        self.picture.copy_from(fields.lines);
+        self.put_others(fields);
     }
 
-    /// Becomes the machine of these fields, in place, if their lines are a picture's, which it answers: they are looked at as they are copied.
-    /// Else its picture is black. Its ROM set stays.
-    pub fn take_fields(&mut self, fields: &Fields) -> bool
-        requires { IsInRangeButLines (state_of fields.now) }
-        ensures taken { (result ≡ true) ↔ AreBoardFields fields.now }
-        ensures machine { self.new ≡ (if result
-            then record { set = self.old.set; now = moment_of fields.now }
-            else blackened self.old) }
+    /// Becomes the machine of these ROMs and fields, in place. ROMs and lines are copied before anything is called: so where a machine has just been
+    /// made, and all is one function once it's compiled, no zeros are written below them.
+    #[inline(always)]
+    pub fn put_all(&mut self, program: &[u8], raw: &Raw, fields: &Fields)
+        requires whole { IsWhole (parts_of program.now raw.now) }
+        requires in_range { AreBoardFields fields.now }
+        ensures { self.new ≡ record {
+          set = parts_of program.now raw.now;
+          now = moment_of fields.now;
+        } }
     {
-        if !self.picture.take(fields.lines) {
-            return false;
-        }
+        self.map.set.put(program, raw);
+        self.picture.copy_from(fields.lines);
+        let set = &self.map.set;
+        self.picture
+            .put_roms(set.tiles(), set.sprites(), set.lookup(), set.colours());
+        self.settings.put_prom(set.wave());
+        self.put_others(fields);
+    }
+
+    /// Becomes the machine of these fields, in place, where their lines are there already.
+    #[inline(always)]
+    fn put_others(&mut self, fields: &Fields)
+        requires { AreBoardFields fields.now }
+        ensures set { self.new.set ≡ self.old.set }
+        ensures now { self.old.now.board.lines ≡ fields.now.lines.now →
+            self.new.now ≡ moment_of fields.now }
+    {
         self.cpu = Cpu::with_regs(fields.regs);
         self.map.memory = Memory::of(&fields.memory);
         self.wave = Wave::of(fields.accumulators);
         self.clock = fields.time;
         self.steps = fields.steps;
-        true
     }
 
     /// The fields, with the microseconds asked for and what is due.

@@ -36,14 +36,15 @@ impl Machine {
     }
 
     /// Takes other ROMs, in place: a program, and the other parts.
+    #[inline(always)]
     pub fn put_roms(&mut self, program: &[u8], raw: &Raw)
         requires { IsWhole (parts_of program.now raw.now) }
         ensures { self.new ≡ record { set = parts_of program.now raw.now; now = self.old.now } }
     {
         self.map.set.put(program, raw);
         let set = &self.map.set;
-        self.settings.put_prom(set.wave());
         self.picture
             .put_roms(set.tiles(), set.sprites(), set.lookup(), set.colours());
+        self.settings.put_prom(set.wave());
     }
 }

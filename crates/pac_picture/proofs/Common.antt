@@ -19,7 +19,6 @@ pub use Rattle.pac_picture.specs.LayerProofs.{IsDrawn, IsLayer, LayerState, made
 unfoldable pub use Rattle.pac_picture.specs.LayerProofs.{kept_dot, stale_rows, zero_roms}
 pub use Rattle.pac_picture.specs.Painting.{painted_number}
 unfoldable pub use Rattle.pac_picture.specs.Painting.{over_line}
-pub use Rattle.pac_picture.specs.RawProofs.{AreColourNumbers}
 pub use Rattle.pac_picture.specs.Picture.{VideoMemory, VideoRoms, is_opaque, sprite_at}
 unfoldable pub use Rattle.pac_picture.specs.Picture.{dot, picture_line, sprite_dot, sprite_number, tile_dot, tile_number}
 unfoldable pub use Rattle.pac_picture.specs.PictureLaws.{picture_of}

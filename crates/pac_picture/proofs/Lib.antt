@@ -15,5 +15,4 @@ pub mod Layers
 pub mod Composed
 pub mod CleanLines
 pub mod Stale
-pub mod Copied
 pub use Rattle.pac_num.proofs.Tabulated

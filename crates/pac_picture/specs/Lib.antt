@@ -13,4 +13,3 @@ pub mod Laws
 pub use Rattle.pac_num.specs.Tabulate
 pub use Rattle.pac_tiles.specs.Tiles
 pub use Rattle.pac_colour.specs.Colours
-pub mod RawProofs

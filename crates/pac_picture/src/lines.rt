@@ -18,7 +18,7 @@ use crate::clean::Clean;
 use crate::graphics::Graphics;
 use crate::layer::{Layer, lay_alone};
 use crate::painting::paint_unless_none;
-use crate::raw::{RawLines, copy_picture};
+use crate::raw::RawLines;
 use crate::screen::Screen;
 use crate::size::{HEIGHT, WIDTH, repeated};
 use std::marker::Model;
@@ -106,24 +106,13 @@ impl Lines {
         &self.lines
     }
 
-    /// Takes all lines of a picture.
+    /// Takes all lines of a picture: one copy, over which a compiler needn't write zeros first where a picture is made.
+    #[inline(always)]
     pub fn copy_from(&mut self, lines: &RawLines)
         requires { IsPicture lines.now }
         ensures { self.new ≡ lines.now }
     {
-        self.lines.copy_from_slice(lines);
-    }
-
-    /// Takes all lines, if they are a picture's, which it answers; else all are of colour number 0.
-    pub(crate) fn take(&mut self, lines: &RawLines) -> bool
-        ensures picture { (result ≡ true) ↔ IsPicture lines.now }
-        ensures lines { self.new ≡ (if result then lines.now else black) }
-    {
-        if copy_picture(lines, &mut self.lines) {
-            return true;
-        }
-        self.lines = repeated([0; WIDTH]);
-        false
+        self.lines = *lines;
     }
 
     /// Composes line y of the shown picture, through a layer whose row of that line is drawn from the screen: a line on

@@ -175,6 +175,7 @@ impl Picture {
     }
 
     /// Takes other ROMs and the colours of another colour PROM; every cell counts as differing then.
+    #[inline(always)]
     pub fn put_roms(
         &mut self,
         tiles: &[u8; 4096],
@@ -249,6 +250,7 @@ impl Picture {
     }
 
     /// Takes the lines of another picture; every cell counts as differing then.
+    #[inline(always)]
     pub fn copy_from(&mut self, lines: &RawLines)
         requires { IsPicture lines.now }
         ensures picture { self.new ≡ record self.old
@@ -258,20 +260,6 @@ impl Picture {
         self.clean.clear();
         self.lines.copy_from(lines);
         self.layer.set_stale();
-    }
-
-    /// Takes these lines, if they are a picture's, which it answers, and else lines of colour number 0; every cell counts as differing then.
-    pub fn take(&mut self, lines: &RawLines) -> bool
-        ensures taken { (result ≡ true) ↔ IsPicture lines.now }
-        ensures picture { self.new ≡ record self.old {
-          lines = (if result then lines.now else black);
-          shadows = map made_stale self.old.shadows;
-        } }
-        ensures stale { AreStale self.new.shadows }
-    {
-        self.clean.clear();
-        self.layer.set_stale();
-        self.lines.take(lines)
     }
 
     /// Composes the whole picture that the screen shows; `drawn` says then how many of its 1,008 cells differ from what they were last drawn

@@ -1,12 +1,11 @@
 //! Lines of a picture as they come from elsewhere, and whether they are a picture's.
 
-ghost use Rattle.std.specs.Prelude.{◌≡◌, ◌<◌, ◌≤◌, ◌+◌, ◌++◌, ◌↔◌, ℕ, [], true, length, take, drop};
+ghost use Rattle.std.specs.Prelude.{◌≡◌, ◌<◌, ◌≤◌, ◌+◌, ◌++◌, ◌↔◌, ℕ, [], true, length, take};
 ghost use Rattle.std.specs.Prelude.{slice_index, slice_index_or};
 ghost use Rattle.std.specs.Prelude.{EachIndex};
 ghost use Rattle.pac_tiles.specs.Tiles as tile;
 ghost use Rattle.pac_colour.specs.Colours as colour;
 ghost use Rattle.pac_picture.specs.State.{IsPicture};
-ghost use Rattle.pac_picture.specs.RawProofs.{AreColourNumbers};
 
 use crate::size::{HEIGHT, WIDTH};
 use std::simd::prelude::*;
@@ -56,33 +55,6 @@ pub fn put_vector(to: &mut [u8], at: usize, bytes: u8x16)
     bytes.copy_to_slice(&mut to[at..]);
 }
 
-/// Copies the sixteen numbers at a place to the same place, and tells them.
-#[inline(always)]
-fn copy_sixteen(from: &[u8], to: &mut [u8], at: usize) -> u8x16
-    requires from { at + 16 ≤ length from.now }
-    requires to { length to.old ≡ length from.now }
-    ensures numbers { result ≡ take 16 (drop at from.now) }
-    ensures size { length to.new ≡ length to.old }
-    ensures text { take (at + 16) to.new ≡ take at to.old ++ take 16 (drop at from.now) }
-{
-    let numbers = u8x16::from_slice(&from[at..]);
-    put_vector(to, at, numbers);
-    numbers
-}
-
-/// Copies a line, and tells sixteen by sixteen all bits that any of its numbers has, or had those before.
-#[inline(always)]
-fn copy_line(from: &[u8; WIDTH], to: &mut [u8; WIDTH], before: u8x16) -> u8x16
-    ensures copied { to.new ≡ from.now }
-    ensures below { AreColourNumbers result ↔ (AreColourNumbers before × AreColourNumbers from.now) }
-{
-    let mut any = before;
-    for place in 0..WIDTH / 16 {
-        any = any | copy_sixteen(from, to, 16 * place);
-    }
-    any
-}
-
 /// Each line has its width. It only looks, so nothing of it is left once it is compiled.
 #[inline(always)]
 fn have_width(lines: &RawLines)
@@ -101,17 +73,4 @@ pub fn is_picture(lines: &RawLines) -> bool
 {
     have_width(lines);
     bits(lines.as_flattened()) < 16
-}
-
-/// Copies lines, and answers whether they are a picture's.
-pub(crate) fn copy_picture(from: &RawLines, to: &mut RawLines) -> bool
-    ensures copied { to.new ≡ from.now }
-    ensures picture { (result ≡ true) ↔ IsPicture from.now }
-{
-    have_width(from);
-    let mut any = u8x16::splat(0);
-    for y in 0..HEIGHT as usize {
-        any = copy_line(&from[y], &mut to[y], any);
-    }
-    bits(&any.to_array()) < 16
 }

@@ -98,6 +98,7 @@ impl RomSet {
     }
 
     /// Becomes the set of these bytes, in place.
+    #[inline(always)]
     pub fn put(&mut self, program: &[u8], raw: &Raw)
         requires { spec.IsWhole (parts_proofs.parts_of program.now raw.now) }
         ensures { self.new ≡ parts_proofs.parts_of program.now raw.now }
@@ -108,6 +109,7 @@ impl RomSet {
     }
 
     /// Puts another program in the four ROMs of it.
+    #[inline(always)]
     fn put_program(&mut self, program: &[u8])
         requires { length program.now ≡ spec.program_size }
         ensures { self.new ≡ record self.old { program = program.now } }
@@ -116,6 +118,7 @@ impl RomSet {
     }
 
     /// Puts other shapes of tiles and sprites in the two ROMs of them.
+    #[inline(always)]
     fn put_shapes(&mut self, tiles: &[u8], sprites: &[u8])
         requires tiles { length tiles.now ≡ spec.tiles_size }
         requires sprites { length sprites.now ≡ spec.sprites_size }
@@ -126,6 +129,7 @@ impl RomSet {
     }
 
     /// Puts other bytes in the three PROMs.
+    #[inline(always)]
     fn put_proms(&mut self, colours: &[u8], lookup: &[u8], wave: &[u8])
         requires colours { length colours.now ≡ spec.colour_prom_size }
         requires lookup { length lookup.now ≡ spec.lookup_prom_size }

@@ -26,7 +26,7 @@ unfoldable pub use Rattle.pac_state.specs.Block.{block_text}
 pub use Rattle.pac_state.specs.Files.{AreWords, FitsSample, IsFile, IsState, board_of_file}
 pub use Rattle.pac_state.specs.FilesLaws.{AcceptsFile, LoadsAgain}
 pub use Rattle.pac_state.specs.FilesProofs.{Accepts}
-pub use Rattle.pac_state.specs.Framed.{IsFramed, TellsFields, TellsFieldsButLines}
+pub use Rattle.pac_state.specs.Framed.{IsFramed, TellsFields}
 pub use Rattle.pac_state.specs.Fronts.{IsFrontOf}
 pub use Rattle.pac_state.specs.Reading.{bytes_at_place, controls_in, due_of, due_sample, lines_of, memory_of, mode_of, picture_in, regs_of}
 pub use Rattle.pac_state.specs.Reading.{saved_word_at, state_in}

@@ -82,8 +82,8 @@ sizes bytes size range = record {
   work = length-part 2130 1024 bytes (omega (arith, size));
   coordinates = length-part 3154 16 bytes (omega (arith, size));
   registers = length-part 3170 32 bytes (omega (arith, size));
-  nibbles = range.but_lines.registers;
-  count = let within = range.but_lines.count in omega (arith, within);
+  nibbles = range.registers;
+  count = let within = range.count in omega (arith, within);
 }
 
 is-state : (bytes : List ℕ) → AreBytes bytes → length bytes ≡ file_size → IsStateInRange (state_in bytes) → IsState (state_in bytes)

@@ -1,6 +1,6 @@
 -- Blocks of states: what stands in them, and which bytes are blocks.
 use Rattle.pac_state.proofs.Common.{BoardState, Fields, IsBlock, IsFramed, IsPicture, IsState, IsText, IsWellFormed, List, None, Option}
-use Rattle.pac_state.proofs.Common.{Some, TellsFields, TellsFieldsButLines, [], ap, append_assoc, arith, block_text, body, bytes_at_place}
+use Rattle.pac_state.proofs.Common.{Some, TellsFields, [], ap, append_assoc, arith, block_text, body, bytes_at_place}
 use Rattle.pac_state.proofs.Common.{file_front, file_size, flat_map, flat_map-split, from_le_bytes, from_le_bytes-to_le_bytes_2, get_or}
 use Rattle.pac_state.proofs.Common.{joined_pieces, length, length-append, no_digest, refl, rules, state_in, subst, sym, take, take_all, w16}
 use Rattle.pac_state.proofs.Common.{written_version, ℕ, ◌+◌, ◌<◌, ◌∙◌, ◌≡◌, ◌≤◌}
@@ -70,20 +70,6 @@ unfolding AreBytes
 reads-block bytes fits size framed (Some fields) reads =
     record { holds = block-of bytes fits size framed reads.holds; state = reads.state; in_range = reads.in_range }
 reads-block bytes fits size framed None reads = λ (block : IsBlock bytes). reads (text-of-block bytes size block)
-
--- the same, where the lines may be none of a picture
-pub reads-block-but-lines : (bytes : List ℕ) → ((i : ℕ) → get_or bytes i 0 < 256) → length bytes ≡ file_size → IsFramed bytes
-    → (result : Option Fields) → TellsFieldsButLines IsText bytes result → TellsFieldsButLines IsBlock bytes result
-unfolding AreBytes
-reads-block-but-lines bytes fits size framed (Some fields) reads = record {
-  holds = (
-    λ range. block-of bytes fits size framed (reads.holds.0 range),
-    λ block. reads.holds.1 (text-of-block bytes size block),
-  );
-  state = reads.state;
-  in_range = reads.in_range;
-}
-reads-block-but-lines bytes fits size framed None reads = λ (block : IsBlock bytes). reads (text-of-block bytes size block)
 
 -- ---- pieces written one after another
 

@@ -1,8 +1,7 @@
 -- For proofs: what a block has around the fields of its state, and what is read out of a file of the right size.
-use Rattle.std.specs.Prelude.{◌≡◌, ◌↔◌, ℕ, List, Option, Some, None}
+use Rattle.std.specs.Prelude.{◌≡◌, ℕ, List, Option, Some, None}
 use Rattle.pac_board.specs.BoardFields.{Fields}
 use Rattle.pac_board.specs.Fields.{state_of, AreBoardFields}
-use Rattle.pac_board.specs.State.{IsInRangeButLines}
 use Rattle.pac_state.specs.Text.{magic, written_version}
 use Rattle.pac_state.specs.Reading.{bytes_at_place, state_in}
 use Rattle.pac_state.specs.Saved.{version_in}
@@ -27,12 +26,3 @@ TellsFields Is bytes (Some fields) = record {
   in_range : AreBoardFields fields;
 }
 TellsFields Is bytes None = Is bytes → ⊥
-
--- The same, but for the lines: the bytes are of that kind where these are a picture's.
-abbrev pub TellsFieldsButLines : (List ℕ → Type 0) → List ℕ → Option Fields → Type 0
-TellsFieldsButLines Is bytes (Some fields) = record {
-  holds : AreBoardFields fields ↔ Is bytes;
-  state : state_of fields ≡ state_in bytes;
-  in_range : IsInRangeButLines (state_of fields);
-}
-TellsFieldsButLines Is bytes None = Is bytes → ⊥

@@ -14,7 +14,7 @@ ghost use Rattle.pac_state.specs.Saved as saved;
 use crate::front::{front, put_at};
 use crate::header::{MAGIC, VERSION, part, word};
 use crate::ranges::in_range;
-use crate::reading::{fields_but_lines_in, fields_in, lines_of};
+use crate::reading::{fields_in, lines_of};
 use crate::sizes::{BODY_SIZE, FILE_SIZE, FRONT_SIZE};
 use pac_board::{Fields, RawLines};
 
@@ -48,18 +48,6 @@ pub fn read_block(block: &[u8; FILE_SIZE]) -> Option<Fields<'_>>
     }
 }
 
-/// The fields in a block, if all but the lines, which may be none of a picture, are those of the block of a state that a board can have: for
-/// whoever copies the lines, and looks at them meanwhile.
-pub fn read_block_but_lines(block: &[u8; FILE_SIZE]) -> Option<Fields<'_>>
-    ensures { framed.TellsFieldsButLines blocks.IsBlock block.now result }
-{
-    if is_framed(block) {
-        fields_but_lines_in(block)
-    } else {
-        None
-    }
-}
-
 /// Writes the colour numbers of a picture, line after line.
 fn put_lines(block: &mut [u8], at: usize, lines: &RawLines) -> usize
     requires { at + length (joined_pieces lines.now) ≤ length block.old }
@@ -82,6 +70,7 @@ pub fn write_block(fields: &Fields, block: &mut [u8; FILE_SIZE])
 }
 
 /// The picture's lines in a block.
+#[inline(always)]
 pub fn block_lines(block: &[u8; FILE_SIZE]) -> &RawLines
     ensures { result.now ≡ (state_in block.now).now.board.lines }
 {

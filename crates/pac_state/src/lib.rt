@@ -13,9 +13,7 @@ mod reading;
 mod saving;
 mod sizes;
 
-pub use block::{
-    block_front, block_lines, put_front, read_block, read_block_but_lines, write_block,
-};
+pub use block::{block_front, block_lines, put_front, read_block, write_block};
 pub use fault::{LoadFault, LoadRefused};
 pub use loading::{file_version, load, load_with, read_file};
 pub use saving::{save, save_fields};

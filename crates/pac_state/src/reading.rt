@@ -1,12 +1,11 @@
 //! The fields of a state in the bytes of a file.
 
 ghost use Rattle.std.specs.Prelude.{◌≡◌, ◌↔◌, ◌<◌, ◌≤◌, ◌*◌, ◌+◌, true, length, slice_index};
-ghost use Rattle.pac_board.specs.Fields.{state_of};
+ghost use Rattle.pac_board.specs.Fields.{state_of, AreBoardFields};
 ghost use Rattle.pac_board.specs.Inputs as inputs;
 ghost use Rattle.pac_board.specs.MemoryFields.{view_of_fields};
-ghost use Rattle.pac_board.specs.State.{IsInRangeButLines};
 ghost use Rattle.pac_board.specs.Tiles as tile;
-ghost use Rattle.pac_state.specs.Framed.{TellsFields, TellsFieldsButLines};
+ghost use Rattle.pac_state.specs.Framed.{TellsFields};
 ghost use Rattle.pac_state.specs.Reading as read;
 ghost use Rattle.pac_state.specs.Saved as saved;
 ghost use Rattle.pac_state.specs.Text as text;
@@ -125,6 +124,7 @@ fn memory(bytes: &[u8]) -> pac_board::MemoryFields<'_>
 }
 
 /// The lines of a picture in its bytes.
+#[inline(always)]
 pub(crate) fn lines_of(bytes: &PictureBlock) -> &RawLines
     ensures { result.now ≡ read.lines_of bytes.now }
 {
@@ -132,6 +132,7 @@ pub(crate) fn lines_of(bytes: &PictureBlock) -> &RawLines
 }
 
 /// So many lines as a picture has.
+#[inline(always)]
 fn all_lines(lines: &[[u8; WIDTH]]) -> &RawLines
     requires { length lines.now ≡ tile.height }
     ensures { result.now ≡ lines.now }
@@ -170,27 +171,13 @@ fn are_written(fields: &Fields, bytes: &[u8]) -> bool
         && due(fields.due) == *part(bytes, 3221)
 }
 
-/// Whether fields that were read from a file stand there as they are written, and all but the lines are a state's.
-fn are_but_lines_taken(fields: &Fields, bytes: &[u8]) -> bool
+/// Whether fields that were read from a file are a state's, and stand there as they are written.
+fn are_taken(fields: &Fields, bytes: &[u8]) -> bool
     requires { length bytes.now ≡ saved.file_size }
     ensures { (result ≡ true)
-        ↔ (IsInRangeButLines (state_of fields.now) × saved.AreWritten (state_of fields.now) bytes.now) }
+        ↔ (AreBoardFields fields.now × saved.AreWritten (state_of fields.now) bytes.now) }
 {
-    fields.are_but_lines_in_range() && are_written(fields, bytes)
-}
-
-/// The fields that stand in bytes of a file's size, if they stand there as they are written, and all but the lines, which may be none of a
-/// picture, are a state's.
-pub(crate) fn fields_but_lines_in(bytes: &[u8]) -> Option<Fields<'_>>
-    requires { length bytes.now ≡ saved.file_size }
-    ensures { TellsFieldsButLines saved.IsText bytes.now result }
-{
-    let fields = fields(bytes);
-    if are_but_lines_taken(&fields, bytes) {
-        Some(fields)
-    } else {
-        None
-    }
+    fields.are_in_range() && are_written(fields, bytes)
 }
 
 /// The fields that stand in bytes of a file's size, if they are a state's and stand there as they are written.
@@ -198,14 +185,10 @@ pub(crate) fn fields_in(bytes: &[u8]) -> Option<Fields<'_>>
     requires { length bytes.now ≡ saved.file_size }
     ensures { TellsFields saved.IsText bytes.now result }
 {
-    match fields_but_lines_in(bytes) {
-        Some(fields) => {
-            if fields.are_in_range() {
-                Some(fields)
-            } else {
-                None
-            }
-        }
-        None => None,
+    let fields = fields(bytes);
+    if are_taken(&fields, bytes) {
+        Some(fields)
+    } else {
+        None
     }
 }

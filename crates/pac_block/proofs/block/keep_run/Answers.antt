@@ -10,7 +10,7 @@ left : (fields : Fields) (state : BoardState) (stop : Option Stop) (asked : ℕ)
 left fields state stop asked is same = cc
 
 pub asked_left-requires : goal.asked_left-requires
-asked_left-requires c = c.fields-fields.ensures.in_range.but_lines.time
+asked_left-requires c = c.fields-fields.ensures.in_range.time
 
 pub write_block-requires : goal.write_block-requires
 write_block-requires c =

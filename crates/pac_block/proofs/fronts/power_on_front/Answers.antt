@@ -8,14 +8,12 @@ block_front-requires c =
     let memory = c.fields.ensures.fields ∙ c.new-kept.ensures in
     let count = ap (λ (view : View). view.latched.count) memory in
     rw c.power_on_fields.ensures (record {
-      but_lines = record {
-        registers = c.fields.ensures.in_range.registers;
-        count = omega (arith, count);
-        accumulators = record { first = omega arith; second = omega arith; third = omega arith };
-        steps = omega arith;
-        time = omega arith;
-        asked = omega arith;
-      };
+      registers = c.fields.ensures.in_range.registers;
+      count = omega (arith, count);
+      accumulators = record { first = omega arith; second = omega arith; third = omega arith };
+      steps = omega arith;
+      time = omega arith;
+      asked = omega arith;
       picture = black-picture c.args.lines.now c.requires;
     })
 

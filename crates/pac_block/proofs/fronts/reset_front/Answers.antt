@@ -4,12 +4,12 @@ use Rattle.pac_block.proofs.Becoming.{front-of}
 use Rattle.pac_block.proofs.fronts.reset_front.Goals as goal
 
 pub reset_memory-memory-requires : goal.reset_memory-memory-requires
-reset_memory-memory-requires c = c.in_ok-fields.ensures.in_range.but_lines.count
+reset_memory-memory-requires c = c.in_ok-fields.ensures.in_range.count
 
 pub block_front-requires : goal.block_front-requires
 block_front-requires c =
     let range = c.in_ok-fields.ensures.in_range in
-    let hold = range.but_lines.registers in
+    let hold = range.registers in
     let kept = subst HoldWhatTheyCan (sym (ap (λ (view : View). view.registers) c.reset_memory-memory.ensures.view)) hold in
     let count = c.reset_memory-memory.ensures.count in
     search rules

@@ -4,7 +4,7 @@ use Rattle.pac_block.proofs.passed.compose_passed.Goals as goal
 
 pub of-memory-requires : goal.of-memory-requires
 of-memory-requires c =
-    let range = c.requires.in_range.but_lines in
+    let range = c.requires.in_range in
     let below = range.count in
     record { registers = range.registers; count = omega (arith, below) }
 

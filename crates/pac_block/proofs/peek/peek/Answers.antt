@@ -4,7 +4,7 @@ use Rattle.pac_block.proofs.peek.peek.Goals as goal
 
 pub of-requires : goal.of-requires
 of-requires c =
-    let range = c.in_ok-fields.ensures.in_range.but_lines in
+    let range = c.in_ok-fields.ensures.in_range in
     let below = range.count in
     record { registers = range.registers; count = omega (arith, below) }
 

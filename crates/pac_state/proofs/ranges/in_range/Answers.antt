@@ -9,8 +9,8 @@ returns c = record {
     work = c.sizes.ensures.work;
     coordinates = c.sizes.ensures.coordinates;
     registers = c.sizes.ensures.registers;
-    nibbles = c.requires.but_lines.registers;
-    count = let below = c.requires.but_lines.count in omega (arith, below);
+    nibbles = c.requires.registers;
+    count = let below = c.requires.count in omega (arith, below);
   };
   held = c.inputs.ensures;
   sample = c.sample.ensures;

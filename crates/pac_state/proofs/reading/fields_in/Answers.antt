@@ -1,11 +1,22 @@
-use Rattle.pac_state.proofs.Common.{IsText}
+use Rattle.pac_state.proofs.Common.{AreWritten, BoardState, IsStateInRange, IsText, subst, sym}
 use Rattle.pac_state.proofs.reading.fields_in.Goals as goal
 
-pub returns-then-are_in_range : goal.returns-then-are_in_range
-returns-then-are_in_range c =
-    let range = c.are_in_range.ensures.0 c.if-are_in_range.true in
-    record { holds = c.in-Some.ensures.holds.0 range; state = c.in-Some.ensures.state; in_range = range }
+pub returns-then-are_taken : goal.returns-then-are_taken
+returns-then-are_taken c =
+    let taken = c.are_taken.ensures.0 c.if-are_taken.true in
+    let same = c.fields-fields.ensures in
+    record {
+      holds = record {
+        in_range = subst IsStateInRange same taken.0;
+        written = subst (λ (state : BoardState). AreWritten state c.args.bytes.now) same taken.1;
+      };
+      state = same;
+      in_range = taken.0;
+    }
 
-pub returns-else-are_in_range : goal.returns-else-are_in_range
-returns-else-are_in_range c = λ (text : IsText c.args.bytes.now).
-    absurd (cc (c.if-are_in_range.false, c.are_in_range.ensures.1 (c.in-Some.ensures.holds.1 text)))
+pub returns-else-are_taken : goal.returns-else-are_taken
+returns-else-are_taken c = λ (text : IsText c.args.bytes.now).
+    let same = sym c.fields-fields.ensures in
+    let range = subst IsStateInRange same text.in_range in
+    let written = subst (λ (state : BoardState). AreWritten state c.args.bytes.now) same text.written in
+    absurd (cc (c.if-are_taken.false, c.are_taken.ensures.1 (range, written)))
