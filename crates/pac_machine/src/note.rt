@@ -8,6 +8,17 @@ use crate::trail::PastStep;
 use pac_code::{Instr, decode};
 use pac_cpu::StepKind;
 
+/// What is known of a step before it's done.
+#[derive(Clone, Copy)]
+pub enum Known {
+    /// The processor runs the instruction before which it stands.
+    Runs,
+    /// It is halted, and waits.
+    Waits,
+    /// It accepts an interrupt.
+    Accepts,
+}
+
 /// A step as it is noted. An instruction is decoded where somebody asks for it, for most steps are forgotten before.
 #[derive(Clone, Copy)]
 pub struct Note {
@@ -17,8 +28,8 @@ pub struct Note {
     pub pc: u16,
     /// The four bytes from there on, before it.
     pub bytes: [u8; 4],
-    /// What it was; else it ran the instruction that the bytes begin with.
-    pub known: Option<StepKind>,
+    /// What it was: where it ran an instruction, the one that the bytes begin with.
+    pub known: Known,
 }
 
 /// The kind of a step that runs the instruction that was found, if one was.
@@ -32,26 +43,14 @@ fn kind_found(found: Option<(Instr, u8)>) -> StepKind
 }
 
 impl Note {
-    /// The note of a step that is known.
-    #[inline]
-    pub fn of(step: PastStep) -> Note
-        ensures { step_noted result ≡ step }
-    {
-        Note {
-            index: step.index,
-            pc: step.pc,
-            bytes: [0; 4],
-            known: Some(step.kind),
-        }
-    }
-
     /// What the step was.
     pub fn kind(&self) -> StepKind
         ensures { result ≡ kind_noted self.now.known self.now.bytes }
     {
         match self.known {
-            Some(kind) => kind,
-            None => kind_found(decode(self.bytes)),
+            Known::Runs => kind_found(decode(self.bytes)),
+            Known::Waits => StepKind::Halted,
+            Known::Accepts => StepKind::Accepted,
         }
     }
 

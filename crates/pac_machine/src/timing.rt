@@ -28,8 +28,14 @@ pub(crate) const HIDDEN_LINES: u64 = 40;
 /// The T-states of a halted step.
 pub(crate) const HALTED_TICKS: u64 = 4;
 
-/// How many samples the steps of a stretch may give before the last one.
-pub const BATCH_SAMPLES: usize = 96;
+/// How many samples the steps of a stretch may give before the last one: those of a frame.
+pub const BATCH_SAMPLES: usize = 1584;
+
+/// The period, in T-states, for a part of which idle loops are looked for.
+pub(crate) const IDLE_PERIOD: u64 = 1024;
+
+/// How long they are looked for in each, in T-states.
+pub(crate) const IDLE_LOOKED_FOR: u64 = 256;
 
 /// How many lines of the picture have passed at a time since the blank before it.
 #[inline]
