@@ -182,7 +182,8 @@ module _ {S : Type 0} (to : Giving S) (old : CourseValue) (board new : BoardValu
       let walked =
       goes.board ∙ ap (λ now. board_after_walk old.board (record (bare old limit limit) { now = now })) found.now in
       let there = ap (λ (b : BoardValue). b.state.now) walked in
-      let in_frame : board.state.now.time < frame_end old = omega (arith, ap (λ (m : Moment BoardView). m.time) there, found.early, within) in
+      let in_frame : board.state.now.time < frame_end old =
+      omega (arith, ap (λ (m : Moment BoardView). m.time) there, found.early, within) in
       grind (arith, due-kept, underway)
     where
       not-closed : board.state.now.time < frame_end old → IsClosed old board new → new.state.now ≡ board.state.now
@@ -233,17 +234,17 @@ module _ (old : CourseValue) (until : ℕ) (within : until ≤ frame_end old) wh
   pub course-noted : (board new : Moment BoardView) (told after : Option (List PastStep)) (tries : ℕ)
       → IsNoted plain until from board told after → new.steps ≡ board.steps → new ≡ (way_walked old tries).now
       → IsNoted (next_in old) until from new told after
-  course-noted board new told after tries bare same now_is =
+  course-noted board new told after tries alone same now_is =
       let walked = walk-stepped (next_in old) (end_of old) from (play-timely (by_view old.board.set) (held_in old)) tries in
       let steps = walked.steps in
       let now_steps = ap (λ (m : Moment BoardView). m.steps) now_is in
-      let count : walked.count ≡ bare.count = omega arith in grind (arith, noted-held, stepped-held)
+      let count : walked.count ≡ alone.count = omega arith in grind (arith, noted-held, stepped-held)
 
   -- and passes by the same
   pub course-passes : (board : Moment BoardView) (steps : ℕ) (stops : Option (List ℕ)) (told after : Option (List PastStep))
       → IsNoted plain until from board told after → PassesBy plain stops from board.steps → steps ≡ board.steps
       → PassesBy (next_in old) stops from steps
-  course-passes board steps stops told after bare passed same n some before = grind (arith, stepped-held)
+  course-passes board steps stops told after alone passed same n some before = grind (arith, stepped-held)
 
 -- all that one go answers
 module _ {S E : Type 0} (to : Giving S) (old : CourseValue) (board new : BoardValue) (sink later : S) (limit until : ℕ)
@@ -268,7 +269,7 @@ module _ {S E : Type 0} (to : Giving S) (old : CourseValue) (board new : BoardVa
       → IsNoted (step (by_view old.board.set)) until old.board.state.now board.state.now told after
       → PassesBy (step (by_view old.board.set)) stops old.board.state.now board.state.now.steps
       → GoesTold to old limit stops told sink result (record old { board = new }) after later
-  gone-told early begun closed goes bare passes =
+  gone-told early begun closed goes alone passes =
       let within : until ≤ frame_end old = omega arith in
       let made = made-so result (omega arith) within early closed goes in
       let there = tries-of result made in
@@ -276,5 +277,5 @@ module _ {S E : Type 0} (to : Giving S) (old : CourseValue) (board new : BoardVa
       record {
         made = made;
         told_is = grind (arith, course-noted);
-        passes = course-passes old until within board.state.now new.state.now.steps stops told after bare passes kept.3;
+        passes = course-passes old until within board.state.now new.state.now.steps stops told after alone passes kept.3;
       }

@@ -92,8 +92,13 @@ module _ {From To : Type 0} (view : From → To) (ask : Questions From) (told : 
   pub run-carried : (play : Play) (board : From) (index : ℕ)
       → walk_view view (run_at ask play board index) ≡ run_at told play (view board) index
   run-carried play board index =
-      grind (arith, carries.put board (Hold (play.held 1)), play-step-carried, walk-carried view (play_step ask play.held)
-      (play_step told play.held))
+      grind (
+        arith,
+        carries.put board (Hold (play.held 1)),
+        play-step-carried,
+        walk-carried view (play_step ask play.held)
+            (play_step told play.held),
+      )
 
   -- so is a play that is taken up
   pub resumed-carried : (play : Play) (from : Moment From) (index : ℕ)

@@ -107,7 +107,7 @@ module _ (inputs : RunInputs) (program : Option Assembled) (session : SessionVal
 
   pub session-outcome : (outcome : Outcome) → IsOutcome session outcome → outcome ≡ outcome_of (trace_of session_plan inputs.dip)
   session-outcome outcome is =
-      let trace = same-trace inputs program session.setting.set session.setting.script ready.whole ready.lie in
+      let traced = same-trace inputs program session.setting.set session.setting.script ready.whole ready.lie in
       let blanks = same-blanks inputs program session.setting.set session.setting.script ready.whole ready.lie in grind (arith, shown-whole)
 
   pub seen-through : IsSeenThrough session_plan inputs.dip

@@ -88,12 +88,12 @@ sizes bytes size range = record {
 
 is-state : (bytes : List ℕ) → AreBytes bytes → length bytes ≡ file_size → IsStateInRange (state_in bytes) → IsState (state_in bytes)
 is-state bytes fits size range =
-    let below = λ (place at size : ℕ). word-below at (bytes_at_place place size bytes) (part-bytes place size bytes fits) in
+    let small = λ (place at size : ℕ). word-below at (bytes_at_place place size bytes) (part-bytes place size bytes fits) in
     record {
-      words = record { ix = below 30 16 28; iy = below 30 18 28; sp = below 30 20 28; pc = below 30 22 28 };
+      words = record { ix = small 30 16 28; iy = small 30 18 28; sp = small 30 20 28; pc = small 30 22 28 };
       memory = sizes bytes size range;
-      held = below 3214 4 7;
-      sample = fits-sample _ _ (below 3221 1 3);
+      held = small 3214 4 7;
+      sample = fits-sample _ _ (small 3221 1 3);
       range = range;
     }
 

@@ -28,9 +28,12 @@ taken old new text fields fits found is =
 
 not-taken : (board : BoardValue) (text : List ℕ) (fault : LoadFault) → ((i : ℕ) → get_or text i 0 < 256)
     → FindsFields board.set text (Err fault) → Loading text (Err (NoFile fault)) board board
-not-taken board text fault fits found =
-    (found.refuses, found.of_file, accepts board.set text fits (Err fault) (record { refuses = found.refuses; of_file = found.of_file }),
-    refl)
+not-taken board text fault fits found = (
+  found.refuses,
+  found.of_file,
+  accepts board.set text fits (Err fault) (record { refuses = found.refuses; of_file = found.of_file }),
+  refl,
+)
 
 pub put_fields-requires : goal.put_fields-requires
 put_fields-requires c = (c.in-Ok.ensures c.args.board.now.set (sym (c.digest-set_digest.ensures ∙ ap digest_of c.set.ensures))).in_range
