@@ -53,6 +53,7 @@ pub use Rattle.pac_board_model.specs.Walk
 pub use Rattle.pac_machine.specs.Bursts
 pub use Rattle.pac_machine.specs.Fields
 pub use Rattle.pac_machine.specs.Trails
+pub use Rattle.pac_machine.specs.Idle as IdleLoops
 pub use Rattle.pac_machine.specs.Stops
 pub use Rattle.pac_machine.specs.StopsProofs
 pub use Rattle.pac_machine.specs.Watches

@@ -1,12 +1,13 @@
 //! The board and the calls that make no step.
 
-ghost use Rattle.std.specs.Prelude.{◌≡◌, ◌≤◌, ◌+◌, IfOk, IfErr};
+ghost use Rattle.std.specs.Prelude.{◌≡◌, ◌≤◌, ◌+◌, IfOk, IfErr, IfSome};
 ghost use Rattle.pac_map.specs.Inputs.{mask};
 ghost use Rattle.pac_map.specs.Contents.{read_of};
 ghost use Rattle.pac_map.specs.RomParts.{IsWhole};
 ghost use Rattle.pac_map.specs.PartsProofs.{parts_of, zero_parts};
 ghost use Rattle.pac_map.specs.View.{held_with, held_without};
 ghost use Rattle.pac_picture.specs.State.{palette_of};
+ghost use Rattle.pac_machine.specs.Idle.{IsIdleLimit};
 ghost use Rattle.pac_board.specs.State as state;
 ghost use Rattle.pac_board.specs.StateLaws as state_laws;
 
@@ -180,6 +181,15 @@ impl Board {
         ensures { result ≡ self.now.made }
     {
         self.made.saturating_add(self.machine.steps() - self.since)
+    }
+
+    /// A time before which no more than so many steps begin, nor any past the blank, where the processor goes around an idle loop.
+    #[inline]
+    pub fn idle_limit(&self, most: u64) -> Option<u64>
+        ensures { IfSome result (λ limit. IsIdleLimit
+            (record { set = self.now.set; now = self.now.state.now }) most limit) }
+    {
+        self.machine.idle_limit(most)
     }
 
     /// The byte that the processor would read at an address.

@@ -220,7 +220,7 @@ module _ (old : CourseValue) (until : ℕ) (within : until ≤ frame_end old) wh
   later-on (suc n) = grind (arith, no-sooner, step-timely, later-on n)
 
   module _ (count : ℕ) (begun : (n : ℕ) → n < count → (stepped plain from n).time < until) where
-    stepped-held : (n : ℕ) → n < count → stepped (next_in old) from n ≡ stepped plain from n
+    pub stepped-held : (n : ℕ) → n < count → stepped (next_in old) from n ≡ stepped plain from n
     stepped-held zero less = refl
     stepped-held (suc n) less =
         let now = stepped plain from n in

@@ -34,6 +34,7 @@ pub use Rattle.pac_board.specs.StepKindVariants
 pub use Rattle.pac_board.specs.Stop
 pub use Rattle.pac_board.specs.Trace
 pub use Rattle.pac_board.specs.Trails
+pub use Rattle.pac_board.specs.IdleLoops
 pub use Rattle.pac_board.specs.TurnsProofs
 pub use Rattle.pac_board.specs.Stops
 pub use Rattle.pac_board.specs.StopsProofs

@@ -41,7 +41,8 @@ pub use Rattle.pac_debug_session.specs.SessionLaws.{session_due_outputs, slot_co
 pub use Rattle.pac_debug_session.specs.SessionProofs.{IsNew}
 pub use Rattle.pac_debug_session.specs.Silent.{Swallows}
 pub use Rattle.pac_debug_session.specs.Strides.{HasLeapt, HasStrode, IsLeap, IsLeapRefused, IsLeapt, IsStrideRefused, LeapEnds, Leaps}
-pub use Rattle.pac_debug_session.specs.Strides.{MeetNothing, heeded_by, heeds, leap_limit, longest_stride, steps_left, stop_unless}
+pub use Rattle.pac_debug_session.specs.Strides.{IsLeapLimit, MeetNothing, heeded_by, heeds, leap_most, longest_stride, steps_left}
+pub use Rattle.pac_debug_session.specs.Strides.{stop_unless}
 pub use Rattle.pac_debug_session.specs.declared.kept.SessionSnapshot.{SessionSnapshot}
 pub use Rattle.pac_debug_session.specs.declared.kept.SlotContents.{SlotContents}
 pub use Rattle.pac_debug_session.specs.declared.motion.Motion.{Motion}

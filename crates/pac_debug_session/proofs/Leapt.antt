@@ -1,13 +1,17 @@
 -- Steps of a session in one go, by what the course's call answered: what stands before them stands after them.
-use Rattle.pac_debug_session.proofs.Common.{AreStops, BoardValue, BoardView, CourseValue, Err, Giving, GoesTold, HasEndedBy, HasLeapt}
+use Rattle.pac_debug_session.proofs.Common.{AreStops, Bool, false, BoardValue, BoardView, CourseValue, Err, Giving, GoesTold, HasEndedBy}
+use Rattle.pac_debug_session.proofs.Common.{HasLeapt}
 use Rattle.pac_debug_session.proofs.Common.{Inside, IsInsideRight, IsLeap, IsLeapRefused, IsStanding, LeapEnds, Leaps, List, MeetNothing}
 use Rattle.pac_debug_session.proofs.Common.{Moment, None, Ok, Option, PastStep, Result, Ring, SessionValue, Some, Stop, TookAll, Walk, ap}
 use Rattle.pac_debug_session.proofs.Common.{arith, board_at, cases_lt, checkpoint_steps, course_of, cut-along, cut-something, frame_end}
-use Rattle.pac_debug_session.proofs.Common.{frame_ticks, goes_at, if◌then◌else◌, inl, inr, leap_limit, list_any, max, min, moved_to, nat_lt}
+use Rattle.pac_debug_session.proofs.Common.{frame_ticks, goes_at, if◌then◌else◌, inl, inr, IsLeapLimit, leap_most, list_any, max, min}
+use Rattle.pac_debug_session.proofs.Common.{moved_to, nat_lt}
 use Rattle.pac_debug_session.proofs.Common.{nat_tests, now_at, outputs_between, refl, rules, session_view, stepped, stop_unless, subst, suc}
 use Rattle.pac_debug_session.proofs.Common.{sym, told_at, true, way_walked, zero, ℕ, ◌%◌, ◌+◌, ◌-◌, ◌/◌, ◌<◌, ◌==◌, ◌∙◌, ◌≡◌, ◌≤◌}
 use Rattle.pac_debug_session.proofs.Ends.{goes-if-counted}
-use Rattle.pac_debug_session.proofs.Indices.{IsOpen, open-up-to}
+use Rattle.pac_debug_session.proofs.Indices.{IsOpen, goes-early, goes-on, one-more, open-up-to}
+use Rattle.pac_board_course.proofs.Framed.{stepped-held}
+use Rattle.pac_debug_session.specs.Strides.{ByTime, ByTurns}
 use Rattle.pac_debug_session.proofs.PlayedOn.{run-walked, given-walked, steps-same}
 use Rattle.pac_debug_session.proofs.Steppings.{IsLeft}
 use Rattle.pac_debug_session.proofs.Reached.{IsReached, reached, next, from}
@@ -97,8 +101,28 @@ module _ (old : SessionValue) (within : old.index ≤ old.furthest)
       begun-at : (n : ℕ) → n < tries → (now_at old.setting (old.index + n)).time < min limit (frame_end (course_of old))
       begun-at n less = grind (arith, as-many, reached-here)
 
-      few-steps : (most : ℕ) → limit ≡ leap_limit old most → tries ≤ min most (checkpoint_steps - old.index % checkpoint_steps)
-      few-steps most limit_is = grind (arith, begun-at (tries - 1), reached-here (tries - 1))
+      later-at : (n : ℕ) → n < tries → (now_at old.setting (old.index + n)).time < (now_at old.setting (old.index + suc n)).time
+      later-at n less =
+          let place = old.index + n in
+          let here = goes-all place (omega arith) in
+          let on = goes-on old.setting place here in
+          let so_open = open-up-to old.setting place (λ earlier sooner. goes-all earlier (omega (arith, sooner, less))) in
+          let one = one-more old.setting place on.now on.outputs on.kind so_open (goes-early old.setting place here) on.is in
+          let same : suc place ≡ old.index + suc n = omega arith in rw (← same) one.later
+
+      few-steps : (most : ℕ) → IsLeapLimit old most limit → tries ≤ leap_most old most
+      few-steps most (ByTime is) = grind (arith, begun-at (tries - 1), reached-here (tries - 1))
+      few-steps most (ByTurns limits) = choose (nat_lt (suc limits.count) tries) refl
+        where
+          choose : (b : Bool) → nat_lt (suc limits.count) tries ≡ b → tries ≤ leap_most old most
+          choose false e = let few = limits.few in grind (arith, nat_tests)
+          choose true e =
+              let more : suc limits.count < tries = grind (arith, nat_tests) in
+              let frame : limit ≤ frame_end (course_of old) = let frame = limits.frame in omega (arith, frame) in
+              let held = stepped-held (course_of old) limit frame (suc limits.count) (λ n less. limits.begun n (omega arith))
+              limits.count (omega arith) in
+              let here = (reached-here limits.count (omega arith)).now_is in
+              absurd (grind (arith, begun-at (suc limits.count), held, here, later-at limits.count, limits.there))
 
       nothing-met : (heeded : List ℕ) → AreStops stops heeded → MeetNothing old.setting heeded old.index new.state.now.steps
       nothing-met heeded are =
@@ -135,7 +159,7 @@ module _ (old : SessionValue) (within : old.index ≤ old.furthest)
       pub asked-then : new.state.asked ≡ 0
       asked-then = ap (λ (b : BoardValue). b.state.asked) stands.board_is
 
-      module _ (most : ℕ) (limit_is : limit ≡ leap_limit old most) where
+      module _ (most : ℕ) (limit_is : IsLeapLimit old most limit) where
         pub stands-then : (ring : Ring) → IsLeft old.setting old.index old.furthest ring
             → IsStanding (session_on old new).setting new.state.now told (session_on old new).furthest ring
         stands-then ring left =
@@ -151,7 +175,7 @@ module _ (old : SessionValue) (within : old.index ≤ old.furthest)
 
     -- ---- by the answer
 
-    module _ (most : ℕ) (limit_is : limit ≡ leap_limit old most) (heeded : List ℕ) (are : AreStops stops heeded) where
+    module _ (most : ℕ) (limit_is : IsLeapLimit old most limit) (heeded : List ℕ) (are : AreStops stops heeded) where
       leapt-so : {E : Type 0} (found : Option Stop) → Gone {E = E} old to sink later limit stops new told (Ok found)
           → HasLeapt to.took old heeded most old.index new.state.now.steps sink
           (if nat_lt old.index new.state.now.steps then None else found) (session_on old new) later

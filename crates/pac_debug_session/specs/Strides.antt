@@ -7,6 +7,7 @@ use Rattle.pac_board_course.specs.Output.{Output}
 use Rattle.pac_board_course.specs.SinksLaws.{Giving, Cut}
 use Rattle.pac_board_course.specs.Sinks.{TookAll}
 use Rattle.pac_board_course.specs.Stop.{Stop}
+use Rattle.pac_board_course.specs.IdleLoops.{IsIdleLimit}
 use Rattle.pac_debug_session.specs.Breakpoints.{heeded_if}
 use Rattle.pac_debug_session.specs.declared.motion.Motion.{Motion}
 use Rattle.pac_debug_session.specs.declared.motion.Motion.TheVariants.{Steps, Continue, Frames, ToEnd}
@@ -23,9 +24,15 @@ pub record MeetNothing (setting : Setting) (heeded : List ℕ) (from until : ℕ
       → list_any (λ address. address == (now_at setting index).regs.pc) heeded ≡ false
   pub frame : (index : ℕ) → from ≤ index → index < until → blanks_at setting index ≡ blanks_at setting from
 
--- Steps in one go have begun by this time, so many at most, as each takes 4 T-states or more; and none past the next checkpoint's index.
-abbrev pub leap_limit : SessionValue → (most : ℕ) → ℕ
-leap_limit s most = (now_at s.setting s.index).time + 4 * min most (checkpoint_steps - s.index % checkpoint_steps)
+-- How many steps there may be in one go: so many at most, and none past the next checkpoint's index.
+abbrev pub leap_most : SessionValue → (most : ℕ) → ℕ
+leap_most s most = min most (checkpoint_steps - s.index % checkpoint_steps)
+
+-- No more of them begin before this time: each takes 4 T-states or more, or they go around an idle loop.
+pub data IsLeapLimit (s : SessionValue) (most limit : ℕ) : Type 0 where
+  ByTime : limit ≡ (now_at s.setting s.index).time + 4 * leap_most s most → IsLeapLimit s most limit
+  ByTurns : IsIdleLimit (record { set = s.setting.set; now = now_at s.setting s.index }) (leap_most s most) limit
+      → IsLeapLimit s most limit
 
 -- whether a motion heeds breakpoints
 abbrev pub heeds : Motion → Bool

@@ -7,7 +7,7 @@ ghost use Rattle.pac_debug_session.specs.Breakpoints.{heeded_if};
 ghost use Rattle.pac_debug_session.specs.Keeping.{kept_of, ring_after_index};
 ghost use Rattle.pac_debug_session.specs.Motions.{oldest_index, checkpoint_steps};
 ghost use Rattle.pac_debug_session.specs.Running.{is_late};
-ghost use Rattle.pac_debug_session.specs.Strides.{IsLeapt, Leaps, leap_limit, stop_unless};
+ghost use Rattle.pac_debug_session.specs.Strides.{IsLeapt, IsLeapLimit, Leaps, stop_unless};
 
 use crate::checkpoints::Checkpoints;
 use crate::history::History;
@@ -47,12 +47,16 @@ fn unless_moved(
 }
 
 impl Session {
-    /// The time by which the last of so many steps has begun, none of them past the next index of a checkpoint.
+    /// A time before which no more than so many steps begin, none of them past the next index of a checkpoint.
     fn leap_limit(&self, most: u64) -> u64
-        ensures { result ≡ leap_limit self.now most }
+        requires some { 1 ≤ most }
+        ensures { IsLeapLimit self.now most result }
     {
         let most = most.min(CHECKPOINT_STEPS - self.board.steps() % CHECKPOINT_STEPS);
-        self.board.time() + LEAST_TICKS * most
+        match self.board.idle_limit(most) {
+            Some(limit) => limit,
+            None => self.board.time() + LEAST_TICKS * most,
+        }
     }
 
     /// Does steps in one go, so many at most, none past the next index of a checkpoint, none past

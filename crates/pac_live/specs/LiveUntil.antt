@@ -3,7 +3,7 @@ use Rattle.std.specs.Prelude.{◌≡◌, ◌≢◌, ◌<◌, ◌≤◌, ◌⊎�
 use Rattle.std.specs.Prelude.{List, [], ◌∷◌, ◌++◌, length, drop, slice_index, Option, None, Some, Ok, Err}
 use Rattle.pac_board.specs.Access.{Access}
 use Rattle.pac_board.specs.Output.{Output, Sound, sound_count, picture_count}
-use Rattle.pac_board.specs.State.{BoardValue, due_outputs, latest, nothing_due}
+use Rattle.pac_board.specs.State.{BoardValue, due_outputs, latest}
 use Rattle.pac_board.specs.Step.{step}
 use Rattle.pac_board.specs.Stop.{Stop}
 use Rattle.pac_board.specs.Trace.{by_view}

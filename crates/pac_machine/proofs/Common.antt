@@ -40,9 +40,9 @@ pub use Rattle.pac_machine.specs.Standing.{due_outputs_in, latest, latest_end, n
 pub use Rattle.pac_machine.specs.StandingProofs.{BoardStanding, now_after}
 pub use Rattle.pac_machine.specs.Stops.{is_stop}
 pub use Rattle.pac_machine.specs.StopsProofs.{PassesBy}
-pub use Rattle.pac_machine.specs.Trails.{IsKnownKind, IsNoted, IsTakenBack, IsToldNext, halted_note, halted_noted, halted_notes, kind_noted}
-pub use Rattle.pac_machine.specs.Trails.{kind_run, noted, noted_line, noted_step, place_after, ring_length, step_noted, stepped}
-pub use Rattle.pac_machine.specs.Trails.{steps_noted, told_by, told_in, told_of, told_with, trail_length, turned}
+pub use Rattle.pac_machine.specs.Trails.{IsKnownKind, IsNoted, IsTakenBack, IsToldNext, halted_note, halted_noted, kind_noted, noted_each}
+pub use Rattle.pac_machine.specs.Trails.{kind_run, noted, noted_line, noted_step, notes_of, place_after, ring_length, step_noted, stepped}
+pub use Rattle.pac_machine.specs.Trails.{steps_noted, told_in, told_of, trail_length, turned}
 pub use Rattle.pac_machine.specs.Watches.{IsWatched, first_of, first_read, first_write, watched_at, watched_in, watches_writes}
 pub use Rattle.pac_machine.specs.WatchesProofs.{watched_after_action, watched_byte_at, watched_input_at}
 pub use Rattle.pac_machine.specs.declared.due.Due.{Due}

@@ -1,6 +1,6 @@
 //! Addresses before which steps are to stop.
 
-ghost use Rattle.std.specs.Prelude.{◌≡◌, None, Some, true};
+ghost use Rattle.std.specs.Prelude.{◌≡◌, None, Some};
 ghost use Rattle.pac_machine.specs.Stops.{is_stop};
 ghost use Rattle.pac_machine.specs.StopsProofs.{first_look};
 
@@ -39,14 +39,6 @@ impl<'a> Stops<'a> {
         ensures { result ≡ Some marks.now }
     {
         Stops { marks: Some(marks) }
-    }
-
-    /// Whether there is no map, so that the steps go on at each address.
-    #[inline(always)]
-    pub(crate) fn is_none(&self) -> bool
-        ensures { result ≡ true → self.now ≡ None }
-    {
-        self.marks.is_none()
     }
 
     /// The time from which on steps look where they begin: 1 where there is a map, for no step ends at 0, and else the time at which they end.

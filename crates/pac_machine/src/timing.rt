@@ -29,7 +29,7 @@ pub(crate) const HIDDEN_LINES: u64 = 40;
 pub(crate) const HALTED_TICKS: u64 = 4;
 
 /// How many samples the steps of a stretch may give before the last one: those of a frame.
-pub const BATCH_SAMPLES: usize = 1584;
+pub const BATCH_SAMPLES: usize = FRAME_SAMPLES as usize;
 
 /// The period, in T-states, for a part of which idle loops are looked for.
 pub(crate) const IDLE_PERIOD: u64 = 1024;

@@ -1,5 +1,5 @@
 -- What stood before the steps stands after them, and what they gave was offered.
-use Rattle.pac_debug_session.proofs.Common.{AreSlotsRight, IsStanding, Parts, SessionValue, ap, arith, by, heeded_if, kept_of, leap_limit}
+use Rattle.pac_debug_session.proofs.Common.{AreSlotsRight, IsStanding, Parts, SessionValue, ap, arith, by, heeded_if, kept_of, IsLeapLimit}
 use Rattle.pac_debug_session.proofs.Common.{max, nat_lt, nothing_due, ring_after_index, rules, session_view, stop_unless, subst, sym, ◌∙◌}
 use Rattle.pac_debug_session.proofs.Common.{◌≡◌}
 use Rattle.pac_debug_session.proofs.Leapt.{session_on, taken-up, leaps-so, stands-then, set-then, asked-then}
@@ -17,7 +17,8 @@ invariant_of-self g c =
     let to = by g.S.Sink.took g.S.Sink.refused in
     let nothing : board.state.due ≡ nothing_due = ap (λ (s : SessionValue). s.due) c.self.view_is ∙ c.requires.nothing in
     let end_is : c.steps-now.result ≡ new.state.now.steps = search rules in
-    let limit_is = c.leap_limit-limit.ensures ∙ ap (λ (s : SessionValue). leap_limit s c.args.most) (sym c.self.view_is) in
+    let limit_is = subst (λ (s : SessionValue). IsLeapLimit s c.args.most c.leap_limit-limit.result) (sym c.self.view_is)
+    c.leap_limit-limit.ensures in
     let gone = taken-up to inside right c.deref_mut.result.now new _ _ _ _ _ _ c.deref_mut.ensures.value c.go-played.ensures in
     let far : max inside.furthest new.state.now.steps ≡ c.max-self-inside.result
     = sym (c.max-self-inside.ensures ∙ ap (λ n. max inside.furthest n) end_is) in
@@ -51,7 +52,8 @@ returns g c =
     let to = by g.S.Sink.took g.S.Sink.refused in
     let index_is : c.steps-index.result ≡ old.index = search rules in
     let end_is : c.steps-now.result ≡ new.state.now.steps = search rules in
-    let limit_is = c.leap_limit-limit.ensures ∙ ap (λ (s : SessionValue). leap_limit s c.args.most) (sym c.self.view_is) in
+    let limit_is = subst (λ (s : SessionValue). IsLeapLimit s c.args.most c.leap_limit-limit.result) (sym c.self.view_is)
+    c.leap_limit-limit.ensures in
     let gone = taken-up to inside right c.deref_mut.result.now new _ _ _ _ _ _ c.deref_mut.ensures.value c.go-played.ensures in
     let far : max inside.furthest new.state.now.steps ≡ c.max-self-inside.result
     = sym (c.max-self-inside.ensures ∙ ap (λ n. max inside.furthest n) end_is) in
