@@ -4,7 +4,6 @@ pub mod Events
 pub mod Processor
 pub mod Recomposed
 pub mod Bursts
-pub mod Lines
 pub mod Batches
 pub mod NextKinds
 pub mod Rests

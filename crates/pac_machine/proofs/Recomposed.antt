@@ -1,10 +1,9 @@
 -- Lines of the picture that are composed again, from the top.
 use Rattle.std.proofs.Common.{add-one, drop-cons}
 use Rattle.std.proofs.Math.Nat.{sub_self}
-use Rattle.pac_machine.proofs.Common.{rules, BoardStanding, List, [], ap, append_assoc, arith, drop, length}
-use Rattle.pac_machine.proofs.Common.{length-tabulate, lines_composed, picture_line, recomposed_view, refl, set, set-append_right}
-use Rattle.pac_machine.proofs.Common.{standing_composed, suc, tabulate, video_memory, video_roms, zero, ℕ, ◌++◌, ◌+◌}
-use Rattle.pac_machine.proofs.Common.{◌<◌, ◌∷◌, ◌≡◌, ◌≤◌}
+use Rattle.pac_machine.proofs.Common.{BoardStanding, List, [], ap, append_assoc, arith, drop, length, length-tabulate, lines_composed}
+use Rattle.pac_machine.proofs.Common.{picture_line, recomposed_view, refl, rules, set, set-append_right, standing_composed, suc, tabulate}
+use Rattle.pac_machine.proofs.Common.{video_memory, video_roms, zero, ℕ, ◌++◌, ◌+◌, ◌<◌, ◌∷◌, ◌≡◌, ◌≤◌}
 
 -- none yet, and one more
 none-yet : {A : Type 0} (value : ℕ → A) (lines : List A) → lines ≡ tabulate 0 value ++ drop 0 lines

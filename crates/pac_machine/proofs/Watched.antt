@@ -1,12 +1,11 @@
 -- What steps do at addresses that are watched: the writes of a step over a bus that looks at them, its reads, and steps one after another.
-use Rattle.pac_machine.proofs.Common.{rules, Access, Accumulators, Action, Acts, BoardStanding, BoardView, Bool, BurstsQuietly, CpuStep}
+use Rattle.pac_machine.proofs.Common.{Access, Accumulators, Action, Acts, BoardStanding, BoardView, Bool, BurstsQuietly, CpuStep}
 use Rattle.pac_machine.proofs.Common.{DoesCpuStep, IsNoted, IsWatched, List, Map, Moment, Next, None, Once, Option, Parts, PastStep, Regs}
-use Rattle.pac_machine.proofs.Common.{Some, Stop, Stopped, Surroundings, WatchedBus, Write, [], actions_of}
-use Rattle.pac_machine.proofs.Common.{arith, burst_at, bus_after_actions, by_view, cpu_step, eventless_step, false, first_of}
-use Rattle.pac_machine.proofs.Common.{first_read, first_write, is_some, map_after_action, map_byte_at, map_input_at}
-use Rattle.pac_machine.proofs.Common.{nat_tests, once_of_step, reads_in, refl, step, stepped, suc}
-use Rattle.pac_machine.proofs.Common.{surroundings, surroundings_of, true, watched_after_action, watched_at, watched_byte_at}
-use Rattle.pac_machine.proofs.Common.{watched_in, watched_input_at, watches_writes, ℕ, ◌++◌, ◌+◌, ◌-◌, ◌<◌, ◌∙◌, ◌∷◌, ◌≡◌, ◌≤◌}
+use Rattle.pac_machine.proofs.Common.{Some, Stop, Stopped, Surroundings, WatchedBus, Write, [], actions_of, arith, burst_at}
+use Rattle.pac_machine.proofs.Common.{bus_after_actions, by_view, cpu_step, eventless_step, false, first_read, first_write, is_some}
+use Rattle.pac_machine.proofs.Common.{map_after_action, map_byte_at, map_input_at, nat_tests, refl, rules, step, stepped, suc, surroundings}
+use Rattle.pac_machine.proofs.Common.{surroundings_of, true, watched_after_action, watched_at, watched_byte_at, watched_in}
+use Rattle.pac_machine.proofs.Common.{watched_input_at, watches_writes, ℕ, ◌++◌, ◌+◌, ◌-◌, ◌<◌, ◌∙◌, ◌∷◌, ◌≡◌, ◌≤◌}
 use Rattle.pac_cpu.specs.Action.{Output}
 use Rattle.pac_machine.specs.declared.watch.Access.TheVariants as access
 use Rattle.pac_machine.proofs.Batches.{IsStill, lines_after, lines_to, played_now, surroundings-played, voices_after}
@@ -114,12 +113,6 @@ module _ (bus new : WatchedBus) (regs left : Regs) (request : Option ℕ) (once 
 
   pub written-met : bus.met ≡ None → new.met ≡ first_write (seen_by bus.map.now) (Some bus.marks.now) [] (actions_of part)
   written-met none = search (rules, did_alike, met-first)
-
--- a step's writes, and then its reads
-pub read-after : (seen : Surroundings) (marks : Option (List ℕ)) (regs : Regs) (request : Option ℕ) (part : CpuStep)
-    → watched_in seen marks regs request part
-    ≡ first_of (first_write seen marks [] (actions_of part)) (first_read marks (reads_in (once_of_step part) regs request))
-read-after seen marks regs request part = search rules
 
 -- ---- the processor's part of a step
 
