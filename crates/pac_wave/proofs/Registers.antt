@@ -1,12 +1,11 @@
 -- Registers that are the same eight by eight are the same.
-use Rattle.std.proofs.Common.{◌≡◌, ℕ, ◌+◌, ◌++◌, List, length, take, drop, nat_eq, true, sym, ap, ◌∙◌, arith, w64}
+use Rattle.std.proofs.Common.{List, arith, drop, length, nat_eq, rules, sym, take, true, w64, ℕ, ◌+◌, ◌∙◌, ◌≡◌}
 use Rattle.std.specs.Int.{to_le_bytes}
-use Rattle.std.proofs.lemmas.Bool.Decides.{nat_tests}
 use Rattle.std.proofs.Math.Seq.{take-add}
 use Rattle.std.proofs.lemmas.List.{take_all}
 
 more : (xs ys : List ℕ) (n : ℕ) → take n xs ≡ take n ys → take 8 (drop n xs) ≡ take 8 (drop n ys) → take (n + 8) xs ≡ take (n + 8) ys
-more xs ys n before next = take-add n 8 xs ∙ (λ i. before i ++ next i) ∙ sym (take-add n 8 ys)
+more xs ys n before next = cc (take-add n 8 xs, take-add n 8 ys)
 
 pub same-eights : (xs ys : List ℕ) → length xs ≡ 32 → length ys ≡ 32 → take 8 (drop 0 xs) ≡ take 8 (drop 0 ys)
     → take 8 (drop 8 xs) ≡ take 8 (drop 8 ys) → take 8 (drop 16 xs) ≡ take 8 (drop 16 ys) → take 8 (drop 24 xs) ≡ take 8 (drop 24 ys)
@@ -18,5 +17,4 @@ same-eights xs ys long too a b c d =
 
 -- eight bytes that make the same number are the same
 pub eight-same : (a b : ℕ) (xs ys : List ℕ) → to_le_bytes w64 a ≡ xs → to_le_bytes w64 b ≡ ys → nat_eq a b ≡ true → xs ≡ ys
-eight-same a b xs ys is too same =
-    let one : a ≡ b = grind (arith, nat_tests) in sym is ∙ ap (to_le_bytes w64) one ∙ too
+eight-same a b xs ys is too same = search rules

@@ -1,8 +1,7 @@
 -- An accumulator as a sum.
-use Rattle.std.proofs.Common.{◌≡◌, ℕ, ◌+◌, ◌%◌, ◌^◌, ◌<◌, Bool, true, false, List, [], ◌∷◌, refl, ◌∙◌, arith}
+use Rattle.std.proofs.Common.{Bool, List, [], arith, false, rules, true, ℕ, ◌%◌, ◌+◌, ◌<◌, ◌^◌, ◌∷◌, ◌≡◌}
 use Rattle.std.proofs.lemmas.List.Sums.{sum_by-cons}
 use Rattle.pac_wave.specs.declared.Voice.{Voice}
-use Rattle.pac_wave.specs.declared.Voice.TheVariants.{First, Second, Third}
 use Rattle.pac_wave.specs.Wave.{Accumulators, Fit20Bits, accumulator, frequency, accumulators_after}
 use Rattle.pac_wave.specs.Sums.{Tick, accumulators_after_ticks, frequency_sum, AccumulatorsAreSums}
 
@@ -12,14 +11,10 @@ grown-sum start added rest = omega arith
 
 after-voice : (registers : List ℕ) (all : Accumulators) (voice : Voice) →
     accumulator (accumulators_after registers true all) voice ≡ (accumulator all voice + frequency registers voice) % 2 ^ 20
-after-voice registers all First = refl
-after-voice registers all Second = refl
-after-voice registers all Third = refl
+after-voice registers all voice = search rules
 
 within : (all : Accumulators) (voice : Voice) → Fit20Bits all → accumulator all voice < 2 ^ 20
-within all First fit = fit.first
-within all Second fit = fit.second
-within all Third fit = fit.third
+within all voice fit = search rules
 
 sums-on : (on : Bool) (registers : List ℕ) (start : Accumulators) (ticks : List Tick) (voice : Voice) →
     ((all : Accumulators) → accumulator all voice < 2 ^ 20 →
@@ -27,11 +22,7 @@ sums-on : (on : Bool) (registers : List ℕ) (start : Accumulators) (ticks : Lis
     accumulator start voice < 2 ^ 20 →
     accumulator (accumulators_after_ticks (accumulators_after registers on start) ticks) voice
     ≡ (accumulator start voice + frequency_sum voice (record { registers = registers; on = on } ∷ ticks)) % 2 ^ 20
-sums-on true registers start ticks voice rest below =
-    let now = after-voice registers start voice in
-    let less : accumulator (accumulators_after registers true start) voice < 2 ^ 20 = rw now (omega arith) in
-    rest (accumulators_after registers true start) less
-    ∙ rw (now, sum_by-cons) (grown-sum (accumulator start voice) (frequency registers voice) (frequency_sum voice ticks))
+sums-on true registers start ticks voice rest below = search (rules, after-voice, sum_by-cons, grown-sum)
 sums-on false registers start ticks voice rest below = rest start below
 
 pub sums : (voice : Voice) (ticks : List Tick) (start : Accumulators) → accumulator start voice < 2 ^ 20 →
