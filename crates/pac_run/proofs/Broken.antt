@@ -11,6 +11,7 @@ use Rattle.pac_run.specs.declared.fault.Output.{Output as Which}
 use Rattle.pac_run.specs.declared.fault.Output.TheVariants as which
 use Rattle.pac_run.proofs.Heard.{IsHeard, ends-there, frames-append, heard-images, is-heard, is-shown, size}
 use Rattle.pac_run.proofs.Filmed.{Filmed, filmed, wave-long, wave-whole, zeros, zeros-last}
+use Rattle.std.proofs.lemmas.Bool.Decides.{nat_tests}
 
 module _ {F W : Type 0} (at : Reel F W) (total : ℕ) where
   -- Film or wave file stopped among these outputs, when those were taken.
@@ -36,11 +37,7 @@ module _ {F W : Type 0} (at : Reel F W) (total : ℕ) where
     enough = search rules
 
     heard-there : IsHeard (stopped.taken - header_size) (taken ++ left) taken
-    heard-there =
-        let past = fails.past at.wave (wave_so_far total taken) has.sound in
-        let less = stopped.stopped.some_left in
-        let long = length-append (wave_so_far total taken) bytes in
-        let first = wave-long total taken in grind (arith, enough, is-heard, size)
+    heard-there = grind (arith, nat_tests, wave_so_far, length-append, wave-long, is-heard)
 
     pub wave-fails : StopsThere (taken ++ left) taken new which.Wave told.count
     wave-fails = (

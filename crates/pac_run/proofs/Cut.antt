@@ -134,9 +134,7 @@ module _ (set : Parts) (items : List Item) (first second : Play) (board : BoardV
 
     same-zeros : frame_samples * second.frames - length (samples_in two.outputs)
         ≡ frame_samples * (first.frames + second.frames) - length (samples_in (one.outputs ++ two.outputs))
-    same-zeros =
-        let sum = ap length (samples-append one.outputs two.outputs) ∙ length-append (samples_in one.outputs) (samples_in two.outputs) in
-        omega (arith, sum, samples-whole)
+    same-zeros = grind (arith, nat_tests, samples-append, length-append, samples_in, samples-whole)
 
     sound-joined : frames_sound first.frames one.outputs ++ frames_sound second.frames two.outputs
         ≡ frames_sound (first.frames + second.frames) all.outputs

@@ -8,6 +8,7 @@ use Rattle.pac_run.specs.declared.fault.Output.TheVariants as which
 use Rattle.pac_run.specs.declared.fault.RunFault.TheVariants as fault
 use Rattle.pac_run.proofs.Answered.{NoWrite, plan-writes}
 use Rattle.pac_run.proofs.Traced.{session-outputs, session-outcome, seen-through, same-setting}
+use Rattle.std.proofs.lemmas.Bool.Decides.{nat_tests}
 
 -- a session that was made of what was prepared
 pub ready-session : (inputs : RunInputs) (prepared : Prepared) (session : SessionValue) → IsPrepared inputs None prepared
@@ -49,8 +50,7 @@ module _ {F W L R T : Type 0} (inputs : RunInputs) (commands : List ℕ) (to : W
     broken : (output : Which) (count : ℕ) → WritesPlay played plan.listing to (Err (fault.Write output count))
         → IsBrokenAt plan inputs.dip commands to words output count
     broken which.Listing count it = search rules
-    broken which.Report count it =
-        let same = session-outcome inputs program session ready it.outcome it.film.done.outcome_is in search rules
+    broken which.Report count it = grind (arith, nat_tests, session-outcome)
     broken which.Frames count it = (record { listing = it.listing; film = it.film.0; report = it.report }, it.film.1)
     broken which.Wave count it = (record { listing = it.listing; film = it.film.film; report = it.report }, search rules)
     broken which.Text count it = record { listing = it.listing; report = it.report; untold = search rules }

@@ -1,10 +1,11 @@
 -- What a film and a wave file have after the outputs of a list.
-use Rattle.pac_run.proofs.Common.{Film, HasBegun, HasTaken, HasText, Image, List, Output, Reel, Show, Sound, TookAll, TookImage, TookSample}
+use Rattle.pac_run.proofs.Common.{Film, HasBegun, HasTaken, HasText, List, Output, Reel, Show, Sound, TookAll}
 use Rattle.pac_run.proofs.Common.{[], ap, append-nil, append_assoc, arith, film_took, flat_map, flat_map-append, frame_samples, header_size}
 use Rattle.pac_run.proofs.Common.{image_bytes, images_text, length, length-append, outputs_before, picture_count, pos, refl, replicate}
-use Rattle.pac_run.proofs.Common.{rules, sample_bytes, sample_text, samples_in, samples_text, sound_text, sym, wav_header, wave_file_text}
+use Rattle.pac_run.proofs.Common.{rules, sample_bytes, sample_text, samples_in, samples_text, sound_text, wav_header, wave_file_text}
 use Rattle.pac_run.proofs.Common.{wave_so_far, ℕ, ℤ, ◌*◌, ◌++◌, ◌+◌, ◌-◌, ◌∙◌, ◌∷◌, ◌≡◌, ◌≤◌}
 use Rattle.pac_run.proofs.Heard.{all-before, frames-append, pictures-counted, samples-add-none, size, sound-bytes}
+use Rattle.std.proofs.lemmas.Bool.Decides.{nat_tests}
 
 -- ---- texts of lists that are put together
 
@@ -17,11 +18,7 @@ samples-append (Show image ∷ one) other = samples-append one other
 pub sound-append : (owed : ℕ) (one other : List Output)
     → samples_text (samples_in one)
     ++ samples_text (samples_in other ++ replicate (owed - length (samples_in (one ++ other))) (pos 0)) ≡ sound_text owed (one ++ other)
-sound-append owed one other =
-    let zeros = replicate (owed - length (samples_in (one ++ other))) (pos 0) in
-    sym (flat_map-append sample_text (samples_in one) (samples_in other ++ zeros))
-    ∙ ap samples_text
-    (sym (append_assoc (samples_in one) (samples_in other) zeros) ∙ ap (λ samples. samples ++ zeros) (sym (samples-append one other)))
+sound-append owed one other = grind (arith, nat_tests, samples_in, flat_map-append, sample_text, samples_text, append_assoc, samples-append)
 
 -- the header has its size
 pub header-long : (samples : ℕ) → length (wav_header samples) ≡ header_size
@@ -34,10 +31,7 @@ module _ (total : ℕ) where
 
   -- the wave file with some outputs more
   pub wave-more : (taken more : List Output) → wave_so_far total (taken ++ more) ≡ wave_so_far total taken ++ samples_text (samples_in more)
-  wave-more taken more =
-      ap (λ samples. head ++ samples_text samples) (samples-append taken more)
-      ∙ (ap (λ bytes. head ++ bytes) (flat_map-append sample_text (samples_in taken) (samples_in more))
-      ∙ sym (append_assoc head (samples_text (samples_in taken)) (samples_text (samples_in more))))
+  wave-more taken more = grind (arith, nat_tests, samples_text, samples-append, flat_map-append, sample_text, samples_in, append_assoc)
 
   -- and the whole of it
   abbrev pub zeros : List Output → List ℤ
@@ -45,14 +39,10 @@ module _ (total : ℕ) where
 
   pub wave-whole : (taken left : List Output)
       → wave_so_far total taken ++ samples_text (samples_in left ++ zeros (taken ++ left)) ≡ wave_file_text total (taken ++ left)
-  wave-whole taken left =
-      append_assoc head (samples_text (samples_in taken)) (samples_text (samples_in left ++ zeros (taken ++ left)))
-      ∙ ap (λ sound. head ++ sound) (sound-append (frame_samples * total) taken left)
+  wave-whole taken left = grind (arith, nat_tests, append_assoc, samples_text, samples_in, sound-append, frame_samples)
 
   pub wave-long : (taken : List Output) → length (wave_so_far total taken) ≡ header_size + size sample_bytes taken
-  wave-long taken =
-      let heard = ap length (sound-bytes taken) in
-      omega (arith, length-append head (samples_text (samples_in taken)), header-long (frame_samples * total), heard)
+  wave-long taken = grind (arith, nat_tests, sound-bytes, length-append, samples_text, samples_in, header-long, frame_samples)
 
 module _ {F W : Type 0} (at : Reel F W) (total : ℕ) where
   -- These outputs were taken. What waits of the sound came after the last picture.
@@ -74,10 +64,10 @@ module _ {F W : Type 0} (at : Reel F W) (total : ℕ) where
         settled = λ n enough. refl;
       }
 
-  -- one sample more
-  sample-more : (taken : List Output) (sample : ℤ) (old new : Film F W) → Filmed taken old → TookSample at.took_w old sample new
-      → Filmed (taken ++ Sound sample ∷ []) new
-  sample-more taken sample old new has took =
+  -- one output more: all samples before an image are written
+  one-more : (taken : List Output) (output : Output) (old new : Film F W) → Filmed taken old → film_took at.took_f at.took_w old output new
+      → Filmed (taken ++ output ∷ []) new
+  one-more taken (Sound sample) old new has took =
       let later = took.wave.after at.wave (wave_so_far total taken) has.sound in
       let further = took.wave.further at.wave (wave_so_far total taken) has.sound in
       record {
@@ -88,11 +78,7 @@ module _ {F W : Type 0} (at : Reel F W) (total : ℕ) where
         past_header = omega (arith, has.past_header, further);
         settled = grind (arith, pictures-counted, samples-add-none);
       }
-
-  -- one image more: all samples before it are written
-  image-more : (taken : List Output) (image : Image) (old new : Film F W) → Filmed taken old → TookImage at.took_f at.took_w old image new
-      → Filmed (taken ++ Show image ∷ []) new
-  image-more taken image old new has took =
+  one-more taken (Show image) old new has took =
       let all = append-nil (wave_so_far total taken) in
       record {
         images = rw (frames-append taken (Show image ∷ []), append-nil (image_bytes (Show image)))
@@ -105,11 +91,6 @@ module _ {F W : Type 0} (at : Reel F W) (total : ℕ) where
             ap picture_count
             (all-before sample_bytes n (taken ++ Show image ∷ []) (omega (arith, enough, wave-long total taken, ap length all, joined)));
       }
-
-  one-more : (taken : List Output) (output : Output) (old new : Film F W) → Filmed taken old → film_took at.took_f at.took_w old output new
-      → Filmed (taken ++ output ∷ []) new
-  one-more taken (Sound sample) old new has took = sample-more taken sample old new has took
-  one-more taken (Show image) old new has took = image-more taken image old new has took
 
   all-more : (before outputs : List Output) (old new : Film F W) → Filmed before old
       → TookAll (film_took at.took_f at.took_w) old outputs new → Filmed (before ++ outputs) new

@@ -113,13 +113,10 @@ module _ (n : ℕ) (taken left : List Output) (settled : picture_count (outputs_
 pub heard-images : (n : ℕ) (outputs taken : List Output) → IsHeard n outputs taken
     → images_text taken ≡ images_text (outputs_before sample_bytes n outputs)
 heard-images n outputs taken heard =
-    let before = outputs_before sample_bytes n outputs in
-    cc (heard.parts, frames-append before heard.waiting, no-images heard.waiting heard.no_picture, append-nil (images_text before))
+    grind (arith, nat_tests, outputs_before, sample_bytes, frames-append, no-images, append-nil, images_text)
 
 -- ---- what was shown before an image that was refused
 
 pub is-shown : (n : ℕ) (taken : List Output) (image : _) (more : List Output) → size image_bytes taken ≤ n
     → n < size image_bytes taken + length (image_bytes (Show image)) → outputs_before image_bytes n (taken ++ Show image ∷ more) ≡ taken
-is-shown n taken image more enough few =
-    before-past image_bytes n taken (Show image ∷ more) enough
-    ∙ (cc (ends-there image_bytes (n - size image_bytes taken) (Show image) more (omega (arith, enough, few)), append-nil taken))
+is-shown n taken image more enough few = grind (arith, nat_tests, before-past, image_bytes, ends-there, append-nil)

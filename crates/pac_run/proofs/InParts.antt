@@ -12,6 +12,7 @@ use Rattle.std.proofs.lemmas.Bool.{and_from}
 use Rattle.pac_run.proofs.Begins.{time-fits, asked-fits}
 use Rattle.pac_run.proofs.Cut.{JoinsRuns, board_of_end, has-frames, runs-joined, still-between}
 use Rattle.pac_run.proofs.Scripts.{play-joined, total-joined}
+use Rattle.std.proofs.lemmas.Bool.Decides.{nat_tests}
 
 -- ---- a run from power-on is one that is taken up there
 
@@ -37,12 +38,7 @@ module _ (plan : Plan) (dip : ℕ) where
   less-none n = omega arith
 
   same-outcome : outcome_since first_board (resumed_of plan first_board) ≡ outcome_of (trace_of plan dip)
-  same-outcome = ap (outcome_since first_board) from-power-on ∙ (λ i. record {
-    frames = same-frames i;
-    steps = less-none (trace_of plan dip).now.steps i;
-    ticks = less-none (trace_of plan dip).now.time i;
-    stop = (trace_of plan dip).stop;
-  })
+  same-outcome = grind (arith, nat_tests, outcome_since, first_board, from-power-on, same-frames, less-none, trace_of)
 
 -- ---- a run, told by what is taken up
 

@@ -5,6 +5,7 @@ use Rattle.pac_run.proofs.Common.{StopsInText, TakesText, ToldAtWave, ToldTill, 
 use Rattle.pac_run.proofs.Common.{inl, inr, lent_refused, lent_took, rules, subst, writing, ℕ, ◌≡◌}
 use Rattle.pac_run.specs.declared.fault.Output.{Output as Which}
 use Rattle.pac_run.specs.declared.fault.Output.TheVariants as which
+use Rattle.std.proofs.lemmas.Bool.Decides.{nat_tests}
 
 -- What holds of one writer holds of the other.
 pub record Carries {V W : Type 0} (one : Writing V) (other : Writing W) : Type 0 where
@@ -112,15 +113,4 @@ module _ {F G W V T U : Type 0} {frames : Writing F} {other_frames : Writing G} 
     (tells : Carries words other_words) (total : ℕ) (outputs : List Output) (setting : Setting) (lines : List (List ℕ)) where
   pub line-untold : (count : ℕ) → IsLineUntold frames wave words total outputs setting lines count
       → IsLineUntold other_frames other_wave other_words total outputs setting lines count
-  line-untold count untold =
-      record {
-        told = untold.told;
-        more = untold.more;
-        left = untold.left;
-        tells = untold.tells;
-        refused = text-stops tells _ count untold.refused;
-        least = untold.least;
-        among = untold.among;
-        images = shows.takes _ untold.images;
-        sound = sound-of shows sounds total _ untold.sound;
-      }
+  line-untold count untold = grind (arith, nat_tests, text-stops, sound-of)
