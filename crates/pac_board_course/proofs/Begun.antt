@@ -1,15 +1,14 @@
 -- A course from power-on is the trace of its script.
 use Rattle.pac_board_course.proofs.Common.{CourseValue, CoursesBegin, Moment, Next, Questions, ap, arith, begun, by_view, end_of}
 use Rattle.pac_board_course.proofs.Common.{frame_ticks, held, held_in, next_in, next_with_inputs, play-timely, play_step, power_on_board}
-use Rattle.pac_board_course.proofs.Common.{power_on_board_view, refl, rules, runs-end, step, suc, total_frames, walk, walk-to-ends, walk_to}
-use Rattle.pac_board_course.proofs.Common.{zero, ℕ, ◌*◌, ◌∙◌, ◌≡◌}
+use Rattle.pac_board_course.proofs.Common.{power_on_board_view, rules, runs-end, step, total_frames, walk, walk-to-ends, walk_to}
+use Rattle.pac_board_course.proofs.Common.{ℕ, ◌*◌, ◌∙◌, ◌≡◌}
 
 -- ---- steps that come to the same make the same walk
 
 module _ {Board : Type 0} (one other : Moment Board → Next Board) (limit : ℕ) (same : (now : Moment Board) → one now ≡ other now) where
   pub walk-same : (from : Moment Board) (n : ℕ) → walk one limit from n ≡ walk other limit from n
-  walk-same from zero = refl
-  walk-same from (suc n) = search rules
+  walk-same from it2 = search rules
 
 -- so do masks that are the same frame by frame
 module _ {Board : Type 0} (ask : Questions Board) (one other : ℕ → ℕ) (same : (frame : ℕ) → one frame ≡ other frame) where

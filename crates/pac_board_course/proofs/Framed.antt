@@ -160,7 +160,6 @@ module _ {S : Type 0} (to : Giving S) (old : CourseValue) (board new : BoardValu
             cut-along (ap (λ (w : Walk BoardView). w.outputs) (sym same) ∙ ap (λ n. (bare old limit n).outputs) (sym count)) (sym kept.0)
             stays.cut;
         of_last = λ number is.
-            let number_is : last ≡ number = omega arith in
             subst (λ xs. IsPrefix xs stays.cut.taken)
             (grind arith)
             (stays.of_last last count);
@@ -236,7 +235,6 @@ module _ (old : CourseValue) (until : ℕ) (within : until ≤ frame_end old) wh
       → IsNoted (next_in old) until from new told after
   course-noted board new told after tries alone same now_is =
       let walked = walk-stepped (next_in old) (end_of old) from (play-timely (by_view old.board.set) (held_in old)) tries in
-      let steps = walked.steps in
       let now_steps = ap (λ (m : Moment BoardView). m.steps) now_is in
       let count : walked.count ≡ alone.count = omega arith in grind (arith, noted-held, stepped-held)
 
@@ -257,12 +255,7 @@ module _ {S E : Type 0} (to : Giving S) (old : CourseValue) (board new : BoardVa
   made-so (Ok stop) soon within early closed goes =
       told-answered to old board new sink later goes.end (omega (arith, goes.within)) early closed {E = E} (Ok stop) (goes.some soon)
       goes.gone
-  made-so (Err refusal) soon within early closed goes =
-      told-answered to old board new sink later until within early closed (Err refusal) soon goes
-
-  tries-of : (result : Result (Option Stop) E)
-      → PlaysInFrame to old sink result (record old { board = new }) later → (tries : ℕ) × (new.state.now ≡ (way_walked old tries).now)
-  tries-of result made = search rules
+  made-so (Err refusal) soon within early closed goes = search (rules, told-answered)
 
   pub gone-told : old.board.state.now.time < end_of old → old.board.state.now.time < limit → IsClosed old board new
       → GoesUntil to old.board until stops None sink result board later
@@ -272,7 +265,6 @@ module _ {S E : Type 0} (to : Giving S) (old : CourseValue) (board new : BoardVa
   gone-told early begun closed goes alone passes =
       let within : until ≤ frame_end old = omega arith in
       let made = made-so result (omega arith) within early closed goes in
-      let there = tries-of result made in
       let kept = due-kept old board new closed in
       record {
         made = made;
