@@ -3,8 +3,8 @@
 pub use Rattle.pac_board_model.proofs.Common.{Account, Act, Entry, Hold, Host, Image, IsWellFormed, IsWhole, StepOn, account_by_view}
 pub use Rattle.pac_board_model.proofs.Common.{after_act, after_acts, append-nil, common_steps, frame_steps, host_at, inl, inr}
 pub use Rattle.pac_board_model.proofs.Common.{moment_with_inputs, next_frame, next_with_inputs, onward_if, picture_count, play_step}
-pub use Rattle.pac_board_model.proofs.Common.{power_on_board_view, power_on_moment, program_size, replicate, slice_index_or, sound_count}
-pub use Rattle.pac_board_model.proofs.Common.{trace, walk_at_start, walk_to, with_frame, with_step, ◌^◌, ◌⊎◌}
+pub use Rattle.pac_board_model.proofs.Common.{power_on_board_view, power_on_moment, replicate, slice_index_or, sound_count, trace}
+pub use Rattle.pac_board_model.proofs.Common.{walk_at_start, walk_to, with_frame, with_step, ◌^◌, ◌⊎◌}
 pub use Rattle.pac_machine.proofs.Common.{BoardStanding, BoardView, Bool, Ends, Goes, IsNextKind, IsNoted, IsTimely, Latched, List}
 pub use Rattle.pac_machine.proofs.Common.{MakesBatch, Moment, Next, None, Option, Output, Parts, PassesBy, Questions, Regs, Show, Some}
 pub use Rattle.pac_machine.proofs.Common.{Sound, StepProgress, View, Walk, [], ap, append_assoc, arith, at_moment, batch_at, blank_event}
@@ -12,9 +12,8 @@ pub use Rattle.pac_machine.proofs.Common.{board_after, by_view, drop, drop-appen
 pub use Rattle.pac_machine.proofs.Common.{going-before, going-far, going-is-early, going-steps, has_ended, image_of, is_some, is_stop}
 pub use Rattle.pac_machine.proofs.Common.{length, line_event, map, map-append, nat_le, nat_lt, nat_tests, not-both, noted, noted_step}
 pub use Rattle.pac_machine.proofs.Common.{open-goes-on, outputs_of_step, read_of, refl, rules, sample_event, step, step-timely, stepped}
-pub use Rattle.pac_machine.proofs.Common.{stretch_end, subst, suc, sym, take, take-append_seam, true, video_memory, video_roms, view_after}
-pub use Rattle.pac_machine.proofs.Common.{walk, walk_after_step, walk_onward, zero, ℕ, ℤ, ◌&&◌, ◌++◌, ◌+◌, ◌-◌, ◌<◌, ◌||◌, ◌∙◌, ◌∷◌, ◌≡◌}
-pub use Rattle.pac_machine.proofs.Common.{◌≤◌}
+pub use Rattle.pac_machine.proofs.Common.{stretch_end, subst, suc, sym, take, take-append_seam, true, video_memory, walk, walk_after_step}
+pub use Rattle.pac_machine.proofs.Common.{walk_onward, zero, ℕ, ℤ, ◌&&◌, ◌++◌, ◌+◌, ◌-◌, ◌<◌, ◌||◌, ◌∙◌, ◌∷◌, ◌≡◌, ◌≤◌}
 unfoldable pub use Rattle.pac_machine.proofs.Common.{palette_of}
 pub use Rattle.pac_board.specs.BoardFields.{Fields}
 pub use Rattle.pac_board.specs.Boxed.{unboxed}
@@ -30,16 +29,15 @@ pub use Rattle.pac_board.specs.Hosts.{RestoresGiveAgain, Snapshot, StepOnce, act
 pub use Rattle.pac_board.specs.Hosts.{refused_took, run_took, stays_within, step_took, steps_between, until_took, way_took}
 pub use Rattle.pac_board.specs.Inputs.{mask}
 pub use Rattle.pac_board.specs.InterruptMode.{InterruptMode}
-pub use Rattle.pac_board.specs.Latched.{Bits, binary_digit}
+pub use Rattle.pac_board.specs.Latched.{binary_digit}
 pub use Rattle.pac_board.specs.Laws.{AreRefused, HasTime, IsOnTheWay, IsTakenUp, RefusalsAreTakenUp, StepsAreDoneAgain, StepsArePartsOfRuns}
 pub use Rattle.pac_board.specs.Laws.{TimeCanBeCut}
 pub use Rattle.pac_board.specs.MemoryFields.{view_of_fields}
-pub use Rattle.pac_board.specs.MemoryView.{HoldWhatTheyCan, held_with, held_without, power_on_view}
+pub use Rattle.pac_board.specs.MemoryView.{HoldWhatTheyCan, held_with, held_without}
 pub use Rattle.pac_board.specs.PictureState.{IsPicture}
 unfoldable pub use Rattle.pac_board.specs.PictureState.{black}
 pub use Rattle.pac_board.specs.Roads.{GoesUntil, HasGoneUntil, IsHeld}
 pub use Rattle.pac_board.specs.RoadsProofs.{BoardPasses, BoardWatched}
-pub use Rattle.pac_board.specs.RomParts.{colour_prom_size, lookup_prom_size, sprites_size, tiles_size, wave_prom_size}
 pub use Rattle.pac_board.specs.Sinks.{Then, TookAll}
 pub use Rattle.pac_board.specs.SinksLaws.{Cut, Giving, RefusesAt, by}
 pub use Rattle.pac_board.specs.State.{BoardState, BoardValue, board_after_reset, board_with_inputs, due_outputs, due_outputs_in, due_with}

@@ -1,18 +1,19 @@
 -- A host's calls bring a board where a walk of it is, and a walk's steps are acts: so calls are acts over the history, in as many parts as
 -- one
 -- likes.
+use Rattle.std.proofs.Common.{rules}
 use Rattle.pac_board.proofs.Common.{Access, Account, Act, Advance, Advances, AreCalls, BoardState, BoardValue, BoardView, Bool, Call}
-use Rattle.pac_board.proofs.Common.{CallsAreOfTheHistory, CountAsked, Due, Ends, Err, Exec, Executes, Fault, ForgetAsked, Giving, GoOn}
+use Rattle.pac_board.proofs.Common.{CallsAreOfTheHistory, CountAsked, Due, Ends, Exec, Executes, Fault, ForgetAsked, Giving, GoOn}
 use Rattle.pac_board.proofs.Common.{GoTo, Goes, GoesTo, GoesUntil, Host, HostedBoard, Idle, InputClear, InputSet, IsCall, IsOfferRefused}
-use Rattle.pac_board.proofs.Common.{IsStepRefused, IsTimely, List, ListsAreCut, Moment, Next, None, Offer, Offers, Ok, Once, Option, Output}
-use Rattle.pac_board.proofs.Common.{Parts, PutFields, PutRoms, Ran, Refused, Reset, Restore, RestoresGiveAgain, Result, Snapshot, StepOn}
-use Rattle.pac_board.proofs.Common.{StepOnce, StepsOnce, Stop, TooFar, Walk, [], account_by_view, acts_of, acts_over, after_act, after_acts}
-use Rattle.pac_board.proofs.Common.{ap, append-nil, append_assoc, arith, board_after_step, by_view, common_steps, drop, drop-append_seam}
-use Rattle.pac_board.proofs.Common.{due_outputs, false, given_over, goes_back, history, host_at, hosts-agree, hosts-are-line-exact, inl}
+use Rattle.pac_board.proofs.Common.{IsStepRefused, IsTimely, List, ListsAreCut, Moment, Next, Offer, Offers, Once, Option, Output}
+use Rattle.pac_board.proofs.Common.{Parts, PutFields, PutRoms, Ran, Reset, Restore, RestoresGiveAgain, Result, Snapshot, StepOn}
+use Rattle.pac_board.proofs.Common.{StepOnce, StepsOnce, Stop, Walk, [], account_by_view, acts_of, acts_over, after_act, after_acts}
+use Rattle.pac_board.proofs.Common.{ap, append-nil, append_assoc, arith, board_after_step, by_view, common_steps, drop-append_seam}
+use Rattle.pac_board.proofs.Common.{due_outputs, false, given_over, goes_back, host_at, hosts-agree, hosts-are-line-exact, inl}
 use Rattle.pac_board.proofs.Common.{inr, latest, length, map, nat_le, nat_tests, next_of, not-both, nothing_due, offer_took, onward_if}
 use Rattle.pac_board.proofs.Common.{outputs_given, outputs_in, refl, refused_took, replicate, run_took, slice_index_or, stays_within, step}
-use Rattle.pac_board.proofs.Common.{step-timely, step_took, steps_between, subst, suc, sym, take, take-append_seam, time_of, true}
-use Rattle.pac_board.proofs.Common.{until_took, view-tells, walk, walk_after_step, walk_at_start, way, way_at, way_took, with_due}
+use Rattle.pac_board.proofs.Common.{step-timely, step_took, steps_between, subst, suc, sym, take-append_seam, time_of, true}
+use Rattle.pac_board.proofs.Common.{until_took, view-tells, walk, walk_after_step, walk_at_start, way_at, way_took, with_due}
 use Rattle.pac_board.proofs.Common.{with_step, zero, ℕ, ◌&&◌, ◌++◌, ◌+◌, ◌-◌, ◌<◌, ◌∙◌, ◌∷◌, ◌≡◌, ◌≤◌, ◌⊎◌}
 use Rattle.pac_board.proofs.Pieces.{none-left}
 use Rattle.pac_board.proofs.Walked.{first-try}
@@ -53,15 +54,11 @@ module _ {Board : Type 0} (account : Account Board) where
 
   onward-walked : (host : Host Board) (w : Walk Board) (stop : Option Stop) (late : Bool) → IsWalked host w
       → IsWalked host (onward_if (step account.ask) w stop late)
-  onward-walked host w None false walked = step-walked host w (step account.ask w.now) refl (step-timely account.ask w.now) walked
-  onward-walked host w stop late walked = walked
+  onward-walked host w it3 it4 walked = search (rules, step-walked, step-timely)
 
   walked : (limit : ℕ) (host : Host Board) (tries : ℕ) → IsWalked host (walk (step account.ask) limit host.now tries)
-  walked limit host zero =
-      record { steps = 0; count = omega arith; acts = ap (λ all. record host { outputs = all }) (sym (append-nil host.outputs)) }
-  walked limit host (suc tries) =
-      let w = walk (step account.ask) limit host.now tries in
-      onward-walked host w w.stop (nat_le limit w.now.time) (walked limit host tries)
+  walked limit host zero = grind (arith, nat_tests, append-nil)
+  walked limit host (suc tries) = grind (arith, nat_tests, onward-walked, nat_le, walked limit host tries)
 
 -- ---- a board's calls
 
@@ -83,14 +80,12 @@ made_at old now asked made due = record { set = old.set; state = record { now = 
 
 put-at : {taken : List Output} (old new : BoardValue) (w : Walk BoardView) (asked made : ℕ) (due : Due)
     → new ≡ made_at old w.now asked made due → due_outputs old ++ w.outputs ≡ taken ++ due_outputs new → IsAt old w taken new
-put-at old new w asked made due is ledger =
-    record { set_is = ap (λ (b : BoardValue). b.set) is; now_is = ap (λ (b : BoardValue). b.state.now) is; ledger = ledger }
+put-at old new w asked made due is ledger = grind (arith, nat_tests)
 
 by-walk : {taken : List Output} (old new : BoardValue) (limit tries asked made : ℕ) (due : Due)
     → new ≡ made_at old (way_at old limit tries).now asked made due
     → due_outputs old ++ (way_at old limit tries).outputs ≡ taken ++ due_outputs new → IsWalk old taken new
-by-walk old new limit tries asked made due is ledger =
-    record { limit = limit; tries = tries; at = put-at old new (way_at old limit tries) asked made due is ledger }
+by-walk old new limit tries asked made due is ledger = grind (arith, nat_tests, put-at, way_at)
 
 unchanged : (old new : BoardValue) → new ≡ old → IsWalk old [] new
 unchanged old new is = by-walk old new 0 zero _ _ _ is (append-nil (due_outputs old) ∙ ap due_outputs (sym is))
@@ -103,8 +98,7 @@ all-taken outputs is none = sym (append-nil outputs) ∙ ap (λ due. outputs ++ 
 stepped-at : {taken : List Output} (h : Next BoardView) (old new : BoardValue) (first due : Due)
     → new ≡ board_after_step h (with_due old first) due → due_outputs old ++ outputs_in h ≡ taken ++ due_outputs new
     → IsAt old (walk_after_step (walk_at_start old.state.now) h) taken new
-stepped-at (Goes now outputs kind) old new first due is ledger = put-at old new _ _ _ _ is ledger
-stepped-at (Ends stop) old new first due is ledger = put-at old new _ _ _ _ is ledger
+stepped-at it1 old new first due is ledger = search (rules, put-at)
 
 step-walk : {taken : List Output} (old new : BoardValue) (first due : Due) → old.state.now.time < latest
     → new ≡ board_after_step (next_of old) (with_due old first) due
@@ -117,12 +111,7 @@ step-walk {taken} old new first due early is ledger =
 module _ {S : Type 0} (to : Giving S) where
   run-walk : (old : BoardValue) (us : ℕ) (sink : S) (answer : Result Ran Fault) (new : BoardValue) (later : S)
       → (runs : Executes to old us sink answer new later) → IsWalk old (run_took to old us sink answer new later runs) new
-  run-walk old us sink (Ok ran) new later runs =
-      let limit = time_of (old.state.asked + us) in
-      by-walk old new limit limit _ _ _ runs.board (all-taken (outputs_given old us) runs.board refl)
-  run-walk old us sink (Err TooFar) new later runs = unchanged old new runs.1.board
-  run-walk old us sink (Err Refused) new later runs =
-      by-walk old new (time_of (old.state.asked + us)) runs.steps _ _ _ runs.board runs.cut.parts
+  run-walk old us sink it4 new later runs = search (rules, time_of, by-walk, all-taken, outputs_given, unchanged)
 
   refused-walk : (old : BoardValue) (sink : S) (new : BoardValue) (later : S) → old.state.now.time < latest
       → (why : IsOfferRefused to old sink new later ⊎ IsStepRefused to old sink new later)
@@ -133,44 +122,28 @@ module _ {S : Type 0} (to : Giving S) where
 
   once-walk : (old : BoardValue) (sink : S) (answer : Result Once Fault) (new : BoardValue) (later : S)
       → (steps : StepsOnce to old sink answer new later) → IsWalk old (step_took to old sink answer new later steps) new
-  once-walk old sink (Ok once) new later steps =
-      step-walk old new nothing_due nothing_due steps.early steps.board
-      (all-taken (due_outputs old ++ outputs_in (next_of old)) steps.board (none-left old (next_of old)))
-  once-walk old sink (Err TooFar) new later steps = unchanged old new steps.1.board
-  once-walk old sink (Err Refused) new later steps = refused-walk old sink new later steps.0 steps.1
+  once-walk old sink it3 new later steps =
+      search (rules, step-walk, nothing_due, all-taken, due_outputs, outputs_in, next_of, none-left, unchanged, refused-walk)
 
   advance-walk : (old : BoardValue) (answer : Result Once Idle) (new : BoardValue) → Advances old answer new → IsWalk old [] new
-  advance-walk old (Ok once) new done =
-      step-walk old new old.state.due new.state.due done.early done.board
-      (ap (λ due. due ++ outputs_in (next_of old)) done.nothing ∙ sym done.outputs)
-  advance-walk old (Err why) new done = unchanged old new done.0
+  advance-walk old it2 new done = search (rules, step-walk, outputs_in, next_of, unchanged)
 
   offer-still : {A E : Type 0} (old : BoardValue) (sink : S) (answer : Result A E) (new : BoardValue) (later : S)
       → (offers : Offers to old sink answer new later)
       → IsAt old (walk_at_start old.state.now) (offer_took to old sink answer new later offers) new
-  offer-still old sink (Ok done) new later offers =
-      put-at old new (walk_at_start old.state.now) _ _ _ offers.0 (append-nil (due_outputs old) ∙ all-taken (due_outputs old) offers.0 refl)
-  offer-still old sink (Err refusal) new later offers =
-      put-at old new (walk_at_start old.state.now) _ _ _ offers.board (append-nil (due_outputs old) ∙ offers.cut.parts)
+  offer-still old sink it3 new later offers = search (rules, put-at, walk_at_start, append-nil, due_outputs, all-taken)
 
   -- of a board of which nothing was due
   way-walk : {E : Type 0} (old : BoardValue) (limit : ℕ) (sink : S) (answer : Result (Option Stop) E) (new : BoardValue) (later : S)
       → (goes : GoesTo to old limit sink answer new later) → due_outputs old ≡ []
       → IsWalk old (way_took to old limit sink answer new later goes) new
-  way-walk old limit sink (Ok stop) new later goes nothing =
-      let outputs = (way old limit).outputs in
-      by-walk old new limit limit _ _ _ goes.board (ap (λ due. due ++ outputs) nothing ∙ all-taken outputs goes.board refl)
-  way-walk old limit sink (Err refusal) new later goes nothing =
-      by-walk old new limit goes.steps _ _ _ goes.board (ap (λ due. due ++ (way_at old limit goes.steps).outputs) nothing ∙ goes.cut.parts)
+  way-walk old limit sink it4 new later goes nothing = search (rules, by-walk, all-taken, way_at)
 
   until-walk : {E : Type 0} (old : BoardValue) (limit : ℕ) (stops : Option (List ℕ)) (met : Option Access) (sink : S)
       (answer : Result (Option Stop) E) (new : BoardValue) (later : S)
       → (goes : GoesUntil to old limit stops met sink answer new later) → due_outputs old ≡ []
       → IsWalk old (until_took to old limit stops met sink answer new later goes) new
-  until-walk {E} old limit stops met sink (Ok stop) new later goes nothing =
-      way-walk {E = E} old goes.end sink (Ok stop) new later goes.gone nothing
-  until-walk {E} old limit stops met sink (Err refusal) new later goes nothing =
-      way-walk {E = E} old limit sink (Err refusal) new later goes nothing
+  until-walk {E} old limit stops met sink it7 new later goes nothing = search (rules, way-walk)
 
 -- ---- calls over the history
 
@@ -186,21 +159,14 @@ kept-more : (since : List BoardState) (state : BoardState) → moments since ++ 
 kept-more since state = grind (arith, common_steps)
 
 both-of : (one other : Bool) → (one && other) ≡ true → (one ≡ true) × (other ≡ true)
-both-of true other h = (refl, h)
-both-of false other h = not-both (sym h)
+both-of it1 other h = search (rules, not-both)
 
 -- what goes back later goes back
 forward-rest : (call : Call) (calls : List Call) → goes_back (call ∷ calls) ≡ false → goes_back calls ≡ false
-forward-rest (Restore number) calls h = not-both h
-forward-rest (PutFields state) calls h = not-both h
-forward-rest (PutRoms set) calls h = not-both h
-forward-rest call calls h = h
+forward-rest it1 calls h = search (rules, not-both)
 
 within-rest : (older : ℕ) (call : Call) (calls : List Call) → stays_within older (call ∷ calls) ≡ true → stays_within older calls ≡ true
-within-rest older (Restore number) calls h = (both-of (nat_le older number) (stays_within older calls) h).1
-within-rest older (PutFields state) calls h = not-both (sym h)
-within-rest older (PutRoms set) calls h = not-both (sym h)
-within-rest older call calls h = h
+within-rest older it2 calls h = search (rules, both-of, nat_le, stays_within, not-both)
 
 -- calls on a board of a set, with snapshots from before them and outputs that were due then; `Forward` says that none goes back
 module _ (set : Parts) (earlier : List BoardState) (first : List Output) (Forward : Type 0) where
@@ -222,25 +188,13 @@ module _ (set : Parts) (earlier : List BoardState) (first : List Output) (Forwar
       → next.outputs ≡ host.outputs ++ given → (Forward → due_outputs old.board ++ given ≡ taken ++ due_outputs new.board)
       → Stands next new (before ++ taken)
   moved {host} {next} {old} {new} {before} taken given st set_is now_is kept_is outputs_is ledger =
-      record {
-        set_is = set_is ∙ st.set_is;
-        now_is = now_is;
-        kept_is = kept_is;
-        ledger = λ forward.
-            let so_far = st.ledger forward in
-            let here = ledger forward in
-            let one = append_assoc first host.outputs given in
-            let two = append_assoc before (due_outputs old.board) given in
-            cc (outputs_is, so_far, here, one, two, append_assoc before taken (due_outputs new.board));
-      }
+      grind (arith, nat_tests, append_assoc, due_outputs)
 
   -- a call that makes no step
   silent : {host next : Host BoardView} {old made new : HostedBoard} {before taken : List Output} → (new ≡ made) × (taken ≡ [])
       → Stands host old before → made.board.set ≡ old.board.set → next.now ≡ made.board.state.now → IsKept next.kept made.kept
       → next.outputs ≡ host.outputs → (Forward → due_outputs old.board ≡ due_outputs made.board) → Stands next new (before ++ taken)
-  silent {host} {old = old} is st set_is now_is kept_is outputs_is due =
-      rw (is.0, is.1) (moved [] [] st set_is now_is kept_is (outputs_is ∙ sym (append-nil host.outputs))
-      (λ forward. append-nil (due_outputs old.board) ∙ due forward))
+  silent {host} {old = old} is st set_is now_is kept_is outputs_is due = grind (arith, nat_tests, moved, append-nil, due_outputs)
 
   -- a call that makes steps
   walking : {host : Host BoardView} {old new : HostedBoard} {before taken took : List Output} → Stands host old before → taken ≡ took
@@ -265,12 +219,8 @@ module _ (set : Parts) (earlier : List BoardState) (first : List Output) (Forwar
         → (Forward → goes_back (call ∷ calls) ≡ false) → stays_within (length earlier) (call ∷ calls) ≡ true → Stands host old before
         → IsCall to call old taken new
         → Stands (acting host (acts_of (length earlier) call (steps_between old new))) new (before ++ taken)
-    call-stands (Exec us) calls host old new before taken forward within st done =
-        let call = done.0 in
-        walking st call.taken_is (run-walk to old.board us call.sink call.answer new.board call.later call.done) done.1
-    call-stands StepOnce calls host old new before taken forward within st done =
-        let call = done.0 in
-        walking st call.taken_is (once-walk to old.board call.sink call.answer new.board call.later call.done) done.1
+    call-stands (Exec us) calls host old new before taken forward within st done = search (rules, walking, run-walk)
+    call-stands StepOnce calls host old new before taken forward within st done = search (rules, walking, once-walk)
     call-stands Advance calls host old new before taken forward within st done =
         walking st done.2 (advance-walk to old.board done.0 new.board done.1) done.3
     call-stands Offer calls host old new before taken forward within st done =
@@ -278,35 +228,16 @@ module _ (set : Parts) (earlier : List BoardState) (first : List Output) (Forwar
         let is = offer-still to old.board call.sink call.answer new.board call.later call.done in
         moved taken [] st is.set_is (st.now_is ∙ sym is.now_is) (st.kept_is.0, done.1 ∙ st.kept_is.1, st.kept_is.2)
         (sym (append-nil host.outputs)) (λ _. cc (is.ledger, call.taken_is))
-    call-stands (GoTo limit) calls host old new before taken forward within st done =
-        let call = done.0 in
-        walking st call.taken_is (way-walk to old.board limit call.sink call.answer new.board call.later call.done done.1) done.2
-    call-stands (GoOn limit stops met) calls host old new before taken forward within st done =
-        let call = done.0 in
-        walking st call.taken_is
-        (until-walk to old.board limit stops met call.sink call.answer new.board call.later call.done done.1) done.2
-    call-stands (CountAsked us) calls host old new before taken forward within st done =
-        silent done st refl st.now_is st.kept_is refl (λ _. refl)
-    call-stands (ForgetAsked most) calls host old new before taken forward within st done =
-        silent done st refl st.now_is st.kept_is refl (λ _. refl)
+    call-stands (GoTo limit) calls host old new before taken forward within st done = search (rules, walking, way-walk)
+    call-stands (GoOn limit stops met) calls host old new before taken forward within st done = search (rules, walking, until-walk)
+    call-stands (CountAsked us) calls host old new before taken forward within st done = grind (arith, nat_tests, silent)
+    call-stands (ForgetAsked most) calls host old new before taken forward within st done = grind (arith, nat_tests, silent)
     call-stands Reset calls host old new before taken forward within st done = silent done st refl (cc) st.kept_is refl (λ _. refl)
-    call-stands (InputSet mask) calls host old new before taken forward within st done =
-        silent done st refl (cc) st.kept_is refl (λ _. refl)
-    call-stands (InputClear mask) calls host old new before taken forward within st done =
-        silent done st refl (cc) st.kept_is refl (λ _. refl)
-    call-stands Snapshot calls host old new before taken forward within st done =
-        let now = old.board.state in let since = st.kept_is.0 in
-        silent done st refl st.now_is (
-          since ++ now ∷ [],
-          ap (λ kept. kept ++ now ∷ []) st.kept_is.1 ∙ append_assoc earlier since (now ∷ []),
-          (cc (st.kept_is.2, st.now_is, kept-more since now)),
-        ) refl (λ _. refl)
+    call-stands (InputSet mask) calls host old new before taken forward within st done = search (rules, silent)
+    call-stands (InputClear mask) calls host old new before taken forward within st done = search (rules, silent)
+    call-stands Snapshot calls host old new before taken forward within st done = grind (arith, nat_tests, silent, append_assoc, kept-more)
     call-stands (Restore number) calls host old new before taken forward within st done =
-        let less : length earlier ≤ number =
-        let both = both-of (nat_le (length earlier) number) (stays_within (length earlier) calls) within in
-        let tested = both.0 in grind (arith, nat_tests) in
-        let back = kept-at earlier st.kept_is.0 number old.board.state less in
-        silent done st refl (cc (st.kept_is.1, st.kept_is.2, st.now_is, back)) st.kept_is refl (λ f. not-both (forward f))
+        grind (arith, nat_tests, both-of, nat_le, stays_within, kept-at, silent, not-both)
     call-stands (PutFields state) calls host old new before taken forward within st done = not-both (sym within)
     call-stands (PutRoms set) calls host old new before taken forward within st done = not-both (sym within)
 
@@ -314,8 +245,7 @@ module _ (set : Parts) (earlier : List BoardState) (first : List Output) (Forwar
         → (Forward → goes_back calls ≡ false) → stays_within (length earlier) calls ≡ true → Stands host old before
         → AreCalls to calls old new taken steps
         → Stands (acting host (acts_over (length earlier) calls steps)) new (before ++ taken)
-    calls-stand [] host old new before taken steps forward within st is =
-        silent (is.0, is.1) st refl st.now_is st.kept_is refl (λ _. refl)
+    calls-stand [] host old new before taken steps forward within st is = grind (arith, nat_tests, silent)
     calls-stand (call ∷ calls) host old new before taken steps forward within st done =
         let one = call-stands call calls host old done.between before done.first_taken forward within st done.first in
         let rest = calls-stand calls _ done.between new (before ++ done.first_taken) done.more_taken done.more_steps
@@ -342,26 +272,19 @@ module _ {S : Type 0} (to : Giving S) where
 
   pub calls-of-the-history : CallsAreOfTheHistory to
   calls-of-the-history items old calls new taken steps whole lie fit within done =
-      let set = old.board.set in
-      let now = old.board.state.now in
-      let acts = acts_over (length old.kept) calls steps in
-      let st = all-stand calls old new taken steps within done in
-      let told = history items old.board acts in
-      let begun = host_at (record { regs = now.regs; board = []; time = now.time; steps = now.steps }) in
-      let same = hosts-agree set items now.board begun acts whole lie fit in
-      let now_is = sym (ap (λ (h : Host BoardView). h.now) same ∙ st.now_is) in
-      let since = st.kept_is.0 in let kept_is = st.kept_is.1 in
-      record {
-        set = st.set_is;
-        now = now_is;
-        older = ap (take (length old.kept)) kept_is ∙ take-append_seam old.kept since;
-        kept =
-            ap (λ kept. moments (drop (length old.kept) kept)) kept_is ∙ ap moments (drop-append_seam old.kept since)
-            ∙ sym (ap (λ (h : Host BoardView). h.kept) same ∙ st.kept_is.2);
-        picture = ap (λ (now : Moment BoardView). now.board.lines) now_is ∙ (view-tells set now.board told.now.board fit).lines;
-        lines = hosts-are-line-exact set items now.board now.regs now.time now.steps acts;
-        outputs = λ stays. ap (λ (h : Host BoardView). due_outputs old.board ++ h.outputs) same ∙ st.ledger stays;
-      }
+      grind (
+        arith,
+        nat_tests,
+        acts_over,
+        all-stand,
+        host_at,
+        hosts-agree,
+        take-append_seam,
+        drop-append_seam,
+        view-tells,
+        hosts-are-line-exact,
+        due_outputs,
+      )
 
 -- ---- calls in two parts, and what is given again where a board goes back between them
 
@@ -375,18 +298,7 @@ forward-within older (call ∷ calls) forward = forward-within older calls forwa
 
 module _ {S : Type 0} (to : Giving S) where
   pub lists-are-cut : ListsAreCut to
-  lists-are-cut [] more old new taken steps done =
-      record {
-        between = old;
-        first_taken = [];
-        first_steps = [];
-        first_done = (refl, refl, refl);
-        more_taken = taken;
-        more_steps = steps;
-        more_done = done;
-        taken_is = refl;
-        steps_are = refl;
-      }
+  lists-are-cut [] more old new taken steps done = grind (arith, nat_tests)
   lists-are-cut (call ∷ first) more old new taken steps done =
       let rest = lists-are-cut first more done.between new done.more_taken done.more_steps done.after in
       record {
@@ -416,8 +328,7 @@ module _ {S : Type 0} (to : Giving S) where
   part-given : (calls : List Call) (old new : HostedBoard) (taken : List Output) (steps : List ℕ) → goes_back calls ≡ false
       → AreCalls to calls old new taken steps
       → due_outputs old.board ++ given_over old.board (length old.kept) calls steps ≡ taken ++ due_outputs new.board
-  part-given calls old new taken steps forward done =
-      (all-stand to calls old new taken steps (forward-within (length old.kept) calls forward) done).ledger forward
+  part-given calls old new taken steps forward done = grind (arith, nat_tests, all-stand, forward-within)
 
   pub restores-give-again : RestoresGiveAgain to
   restores-give-again first number more old new taken steps first_forward more_forward done =

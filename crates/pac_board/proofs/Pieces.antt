@@ -1,6 +1,8 @@
 -- Time in pieces, refusals, steps that are done again, and single steps and offers as parts of a run.
+use Rattle.std.proofs.Common.{rules}
+use Rattle.std.proofs.lemmas.Bool.Decides.{nat_tests}
 use Rattle.pac_board.proofs.Common.{AreRefused, BoardValue, BoardView, Due, Ends, Giving, Goes, HasTime, IsOnTheWay, IsRunRefused}
-use Rattle.pac_board.proofs.Common.{IsTakenUp, IsTimely, List, Moment, Next, Output, Parts, RefusalsAreTakenUp, StepsAreDoneAgain}
+use Rattle.pac_board.proofs.Common.{IsTakenUp, IsTimely, List, Moment, Next, Output, RefusalsAreTakenUp, StepsAreDoneAgain}
 use Rattle.pac_board.proofs.Common.{StepsArePartsOfRuns, TimeCanBeCut, Walk, [], ap, append-nil, append_assoc, arith, board_after_run}
 use Rattle.pac_board.proofs.Common.{board_after_step, board_after_walk, by_view, course, course_at, due_outputs, due_outputs_in, goes-on}
 use Rattle.pac_board.proofs.Common.{joined, next_from_moment, next_of, nothing_due, on-the-way, outputs_given, outputs_in, refl, step}
@@ -18,15 +20,12 @@ counted-twice made from middle end less more = omega arith
 
 pub walked-twice : (start : BoardValue) (v u : Walk BoardView) → start.state.now.steps ≤ v.now.steps → v.now.steps ≤ u.now.steps
     → board_after_walk (board_after_walk start v) u ≡ board_after_walk start u
-walked-twice start v u less more =
-    ap (λ (made : ℕ). record (board_after_walk start u) { made = made })
-    (counted-twice start.made start.state.now.steps v.now.steps u.now.steps less more)
+walked-twice start v u less more = grind (arith, nat_tests, board_after_walk, counted-twice)
 
 -- outputs of which so much was taken, and those that follow
 given-on : (due outputs taken left more : List Output) {whole : List Output} → due ++ outputs ≡ taken ++ left → outputs ++ more ≡ whole
     → taken ++ (left ++ more) ≡ due ++ whole
-given-on due outputs taken left more parts on =
-    sym (append_assoc taken left more) ∙ ap (λ xs. xs ++ more) (sym parts) ∙ append_assoc due outputs more ∙ ap (λ xs. due ++ xs) on
+given-on due outputs taken left more parts on = grind (arith, nat_tests, append_assoc)
 
 module _ (board : BoardValue) (us : ℕ) where
   -- the board where a walk has brought it, of which so much is asked, with something due
@@ -112,20 +111,13 @@ once-taken-up to old new microseconds sink later refusal =
 -- and from one that a further refusal left
 taken-up-again : (old middle new : BoardValue) (microseconds : ℕ) (before more : List Output)
     → IsTakenUp old middle microseconds before → IsTakenUp middle new 0 more → IsTakenUp old new microseconds (before ++ more)
-taken-up-again old middle new microseconds before more first second = record {
-  board_is = second.board_is ∙ first.board_is;
-  given_is = append_assoc before more (outputs_given new 0) ∙ ap (λ xs. before ++ xs) second.given_is ∙ first.given_is;
-  stop_is = second.stop_is ∙ first.stop_is;
-}
+taken-up-again old middle new microseconds before more first second = grind (arith, nat_tests, append_assoc, outputs_given)
 
 module _ {S : Type 0} (to : Giving S) (old : BoardValue) (microseconds : ℕ) where
   all-taken-up : (calls : ℕ) (middle new : BoardValue) (before more : List Output) (between later : S)
       → IsTakenUp old middle microseconds before → AreRefused to calls middle between new later more
       → IsTakenUp old new microseconds (before ++ more)
-  all-taken-up zero middle new before more between later first none =
-      subst (λ xs. IsTakenUp old new microseconds (before ++ xs)) (sym none.2)
-      (subst (λ xs. IsTakenUp old new microseconds xs) (sym (append-nil before))
-      (subst (λ (board : BoardValue). IsTakenUp old board microseconds before) (sym none.0) first))
+  all-taken-up zero middle new before more between later first none = grind (arith, nat_tests, append-nil)
   all-taken-up (suc calls) middle new before more between later first again =
       let one = once-taken-up to middle again.between 0 between again.middle again.first in
       let taken = again.first.cut.taken in
@@ -143,10 +135,7 @@ refusals-taken-up to old new microseconds calls sink later taken call =
     subst (λ xs. IsTakenUp old new microseconds xs) (sym call.taken_is) all
 
 pub steps-done-again : StepsAreDoneAgain
-steps-done-again board other same = record {
-  next_is = ap (λ (set : Parts). next_from_moment set board.state.now) same;
-  due_is = ap (λ (set : Parts). due_outputs_in set board.state.now.board board.state.due) same;
-}
+steps-done-again board other same = grind (arith, nat_tests, next_from_moment, due_outputs_in)
 
 -- ---- single steps and offers
 
@@ -162,11 +151,7 @@ walk-on-the-way board us tries due taken w is parts =
 -- one where nothing was done is, too
 still-on-the-way : (board : BoardValue) (us : ℕ) (due : Due) (taken : List Output)
     → due_outputs board ++ [] ≡ taken ++ due_outputs (with_due board due) → IsOnTheWay board (with_due board due) us taken
-still-on-the-way board us due taken parts = record {
-  board_is = refl;
-  given_is = given-on (due_outputs board) [] taken (due_outputs (with_due board due)) (course board us).outputs parts refl;
-  stop_is = refl;
-}
+still-on-the-way board us due taken parts = grind (arith, nat_tests, given-on, due_outputs, with_due)
 
 -- a step is on the way, whatever part of the outputs was taken
 step-on-the-way : (board : BoardValue) (us : ℕ) (due : Due) (taken : List Output) (h : Next BoardView) → next_of board ≡ h
@@ -185,8 +170,7 @@ step-on-the-way board us due taken (Ends stop) is times early parts = still-on-t
 
 -- after a step all of whose outputs were taken nothing is due
 pub none-left : (board : BoardValue) (h : Next BoardView) → due_outputs (board_after_step h (with_due board nothing_due) nothing_due) ≡ []
-none-left board (Goes now outputs kind) = refl
-none-left board (Ends stop) = refl
+none-left board it2 = search rules
 
 pub steps-are-parts : {S : Type 0} (to : Giving S) → StepsArePartsOfRuns to
 steps-are-parts to old new microseconds sink later = record {

@@ -1,8 +1,9 @@
 -- A board's loop ends at its limit, or earlier, where it is to stop, or where a step did something at an address that is watched. Then its
 -- walk is the one to that time.
-use Rattle.pac_board.proofs.Common.{Access, BoardPasses, BoardValue, BoardWatched, Bool, Err, Giving, GoesTo, GoesUntil, HasGone}
-use Rattle.pac_board.proofs.Common.{HasGoneUntil, IsHeld, IsTimely, IsTold, List, Moment, Next, None, Ok, Option, Output, PassesBy}
-use Rattle.pac_board.proofs.Common.{PastStep, Result, Some, Stop, Walk, ap, arith, by_view, false, going-before, going-far, going-steps}
+use Rattle.std.proofs.Common.{rules}
+use Rattle.pac_board.proofs.Common.{Access, BoardPasses, BoardValue, BoardWatched, Bool, Giving, GoesTo, GoesUntil, HasGone}
+use Rattle.pac_board.proofs.Common.{HasGoneUntil, IsHeld, IsTimely, IsTold, List, Moment, Next, None, Option, Output, PassesBy}
+use Rattle.pac_board.proofs.Common.{PastStep, Result, Stop, Walk, ap, arith, by_view, false, going-before, going-far, going-steps}
 use Rattle.pac_board.proofs.Common.{has_ended, is_some, is_stop, late-has-ended, more-joined, nat_lt, nat_tests, not-both, noted-more}
 use Rattle.pac_board.proofs.Common.{open-goes-on, passes-more, refl, step, step-timely, subst, suc, sym, true, walk, walk_onward}
 use Rattle.pac_board.proofs.Common.{watched-first, watched-more, way_at, zero, ℕ, ◌+◌, ◌-◌, ◌<◌, ◌∙◌, ◌≡◌, ◌≤◌}
@@ -27,11 +28,7 @@ module _ {Board : Type 0} (next : Moment Board → Next Board) (limit : ℕ) (ti
   pub walk-sooner : (n : ℕ) → has_ended limit (at n) ≡ false → (m : ℕ) → m ≤ n → walk next (at n).now.time from m ≡ at m
   walk-sooner n going zero less = refl
   walk-sooner n going (suc m) less =
-      let time = (at n).now.time in
-      let still = going-before next limit from m n (omega arith) going in
-      ap (walk_onward next time) (walk-sooner n going m (omega arith))
-      ∙ going-steps next time (at m) (open-goes-on time (at m) (has-no-stop (at m).stop _ still) (earlier n m (omega arith) going))
-      ∙ sym (going-steps next limit (at m) still)
+      search (rules, going-before, walk_onward, going-steps, open-goes-on, has-no-stop, earlier, walk-sooner n going m (omega arith))
 
 -- ---- the loop's ends
 
@@ -40,15 +37,11 @@ module _ {S : Type 0} {took : S → Output → S → Type 0} {start : BoardValue
   -- one that meets a stop, or has no time left, ends at its limit
   pub gone-to-limit : {stops : Option (List ℕ)} (met : Option Access) → HasGone took start limit sink stop new later
       → HasGoneUntil took start limit stops met sink stop new later
-  gone-to-limit met gone =
-      record { end = limit; within = omega arith; some = λ early. early; gone = gone; early = λ less. absurd (omega arith) }
+  gone-to-limit met gone = grind (arith, nat_tests)
 
   -- where nothing is watched and there are no addresses to stop at, it ends at its limit alone
   gone-free : HasGoneUntil took start limit None None sink stop new later → HasGone took start limit sink stop new later
-  gone-free gone =
-      let not_early : gone.end < limit → ⊥ = λ early. let there = gone.early early in not-both (sym there.here) in
-      let same : gone.end ≡ limit = omega (arith, gone.within, not_early) in
-      rw (← same) gone.gone
+  gone-free gone = grind (arith, nat_tests, not-both)
 
 module _ {S : Type 0} {took : S → Output → S → Type 0} {start : BoardValue} {limit : ℕ} {sink : S} {board : BoardValue} {taker : S}
     (under : IsUnderway took start limit sink board taker) where
@@ -84,21 +77,17 @@ module _ {S : Type 0} {took : S → Output → S → Type 0} {start : BoardValue
   -- one that stands where it is to stop
   pub gone-to-stop : (stops : Option (List ℕ)) (met : Option Access) → met ≡ None → start.state.now.time < board.state.now.time
       → is_stop stops board.state.now.regs.pc ≡ true → HasGoneUntil took start limit stops met sink None board taker
-  gone-to-stop stops met none later stands =
-      rw none (gone-there stops None later (record { none = refl; time_is = refl; here = stands }))
+  gone-to-stop stops met none later stands = grind (arith, nat_tests, gone-there)
 
   -- one whose last step did something at an address that is watched
   pub gone-to-access : (stops : Option (List ℕ)) (met : Option Access) → is_some met ≡ true
       → start.state.now.time < board.state.now.time → HasGoneUntil took start limit stops met sink None board taker
-  gone-to-access stops None some later = not-both (sym some)
-  gone-to-access stops (Some access) some later = gone-there stops (Some access) later (refl, refl)
+  gone-to-access stops it2 some later = search (rules, not-both, gone-there)
 
 pub goes-free : {S E : Type 0} (to : Giving S) (start : BoardValue) (limit : ℕ) (stops : Option (List ℕ)) (met : Option Access) (sink : S)
     (answer : Result (Option Stop) E) (new : BoardValue) (later : S) → stops ≡ None → met ≡ None
     → GoesUntil to start limit stops met sink answer new later → GoesTo to start limit sink answer new later
-goes-free to start limit stops met sink (Ok stop) new later none unmet gone =
-    gone-free (rw (none, unmet) at gone)
-goes-free to start limit stops met sink (Err refusal) new later none unmet gone = gone
+goes-free to start limit stops met sink it7 new later none unmet gone = search (rules, gone-free)
 
 -- ---- what its steps passed by
 
@@ -113,8 +102,7 @@ pub record HasPassed (limit : ℕ) (stops marks : Option (List ℕ)) (old new : 
 -- without a step they did nothing there
 pub met-nothing : (marks : Option (List ℕ)) (old new : BoardValue) (met : Option Access) → new.state.now.steps ≡ old.state.now.steps
     → met ≡ None → BoardWatched marks old new met
-met-nothing marks old new met steps none =
-    rw none (watched-first old.set marks (step (by_view old.set)) old.state.now new.state.now.steps steps)
+met-nothing marks old new met steps none = grind (arith, nat_tests, watched-first, by_view)
 
 -- a stretch after others
 pub passed-further : {S : Type 0} {took : S → Output → S
@@ -128,7 +116,6 @@ pub passed-further : {S : Type 0} {took : S → Output → S
 passed-further {start = start} {board = board} under new stops marks {met = met} same_marks one passed quiet two passes watched =
     let next = step (by_view start.set) in
     let same = ap (λ (b : BoardValue). b.set) under.board_is in
-    let so_many = two.steps in
     record {
       told = noted-more next one (rw same at two);
       passes = passes-more next stops start.state.now new.state.now.steps one passed (rw same at passes);

@@ -1,4 +1,5 @@
 -- What a sink took and refused, output by output.
+use Rattle.std.proofs.lemmas.Bool.Decides.{nat_tests}
 use Rattle.pac_board.proofs.Common.{Cut, Giving, List, Output, RefusesAt, Sound, Then, TookAll, [], ap, append_assoc, arith, get_or, length}
 use Rattle.pac_board.proofs.Common.{map, map-append, refl, subst, sym, take, take_more, ℕ, ℤ, ◌++◌, ◌+◌, ◌<◌, ◌∙◌, ◌∷◌, ◌≡◌, ◌≤◌}
 use mathlib.Core.List.{IsPrefix}
@@ -10,11 +11,7 @@ module _ {S : Type 0} (took : S → Output → S → Type 0) where
       → TookAll took old (first ++ second) new
   took-both [] second old between new before after = subst (λ s. TookAll took s second new) before after
   took-both (output ∷ more) second old between new before after =
-      record {
-        between = before.between;
-        before = before.before;
-        after = took-both more second before.between between new before.after after;
-      }
+      grind (arith, nat_tests, took-both more second before.between between new before.after after)
 
   -- one more of a batch
   pub took-more : (samples : List ℤ) (sample : ℤ) (n : ℕ) (old between new : S) → n < length samples → sample ≡ get_or samples n sample
@@ -34,13 +31,7 @@ module _ {S : Type 0} (took : S → Output → S → Type 0) where
   pub took-parts : (first second : List Output) (old new : S) → TookAll took old (first ++ second) new
       → Then (TookAll took old first) (λ between. TookAll took between second new)
   took-parts [] second old new all = record { between = old; before = refl; after = all }
-  took-parts (output ∷ more) second old new all =
-      let rest = took-parts more second all.between new all.after in
-      record {
-        between = rest.between;
-        before = record { between = all.between; before = all.before; after = rest.before };
-        after = rest.after;
-      }
+  took-parts (output ∷ more) second old new all = grind (arith, nat_tests, took-parts more second all.between new all.after)
 
 -- ---- taking some outputs, and refusing one
 

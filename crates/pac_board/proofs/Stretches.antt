@@ -1,6 +1,7 @@
 -- A stretch of a board is steps that give samples alone, and then one turn: so the loop over stretches goes along the same walk as one
 -- over turns.
-use Rattle.pac_board.proofs.Common.{BoardValue, BoardView, Bool, Ends, Giving, Goes, HasBatch, HasGone, HasStretched, IsHeardUntil}
+use Rattle.std.proofs.Common.{rules}
+use Rattle.pac_board.proofs.Common.{BoardValue, BoardView, Bool, Giving, HasBatch, HasGone, HasStretched, IsHeardUntil}
 use Rattle.pac_board.proofs.Common.{IsLastTurn, IsOfferRefused, IsStretchRefused, IsStretched, IsTimely, IsTurn, IsWayRefused, List, Moment}
 use Rattle.pac_board.proofs.Common.{Next, None, Option, Output, Some, Sound, Stop, TookAll, Walk, [], ap, arith, batch_of, board_after_walk}
 use Rattle.pac_board.proofs.Common.{by, by_view, due_outputs, ended-whole, false, going-is-early, going-steps, has_ended, is_some, map}
@@ -16,25 +17,20 @@ use Rattle.pac_board.proofs.Walked.{step-ends, walked-after}
 -- ---- the last step of a stretch
 
 pub has-no-stop : (stop : Option Stop) (late : Bool) → (is_some stop || late) ≡ false → stop ≡ None
-has-no-stop (Some stop) late going = not-both going
-has-no-stop None late going = refl
+has-no-stop it1 late going = search (rules, not-both)
 
 pub no-stop : (stop : Option Stop) → is_some stop ≡ false → stop ≡ None
-no-stop (Some stop) none = absurd (cc)
-no-stop None none = refl
+no-stop it1 none = search rules
 
 outputs-same : (h : Next BoardView) → outputs_of_step h ≡ outputs_in h
-outputs-same (Goes now outputs kind) = refl
-outputs-same (Ends stop) = refl
+outputs-same it1 = search rules
 
 -- a turn, by its answer
 
 last-turn : {S : Type 0} (took : S → Output → S → Type 0) (between new : BoardValue) (sink later : S) (w : Walk BoardView)
     (h : Next BoardView) (time : ℕ) (stop : Option Stop) → stop ≡ (walk_after_step w h).stop
     → IsTurn took between sink (once_at h time) new later → IsLastTurn took between sink stop new later
-last-turn took between new sink later w (Goes now outputs kind) time stop met turn =
-    rw met (record { ticks = _; kind = kind; turn = turn })
-last-turn took between new sink later w (Ends end) time stop met turn = rw met turn
+last-turn took between new sink later w it7 time stop met turn = search rules
 
 module _ {old : BoardValue} {near : ℕ} {stop : Option Stop} {given : List ℤ} {mid : BoardValue} (batch : HasBatch old near stop given mid)
   where

@@ -1,5 +1,7 @@
 -- The kind of a step was found before it.
-use Rattle.pac_board.proofs.Common.{IsNextKind, ap, next_of, rules, told_once, ℕ, ◌-◌, ◌∙◌}
+use Rattle.std.proofs.Common.{arith}
+use Rattle.std.proofs.lemmas.Bool.Decides.{nat_tests}
+use Rattle.pac_board.proofs.Common.{next_of, told_once}
 use Rattle.pac_board.proofs.Turns.{is-told, step-short}
 use Rattle.pac_board.proofs.board.Board.advance.Goals as goal
 
@@ -11,17 +13,14 @@ once_told-requires c =
 
 pub returns : goal.returns
 returns c =
-    let old = c.args.self.now in
-    let new = c.do_step-met.new.self in
-    let done = c.do_step-met.ensures.done in
-    let kind : IsNextKind (next_of old) c.kind-kind.result = search rules in
-    let begun = ap (λ (n : ℕ). told_once c.do_step-met.result (new.state.now.time - n) c.kind-kind.result) c.time-begun.ensures.time in
-    record {
-      early = done.early;
-      nothing = done.nothing;
-      board = done.board;
-      outputs = done.outputs;
-      once_is =
-          c.once_told.ensures ∙ begun
-          ∙ is-told old new c.do_step-met.result c.kind-kind.result new.state.due (next_of old) kind done.board c.do_step-met.ensures.stop;
-    }
+    grind (
+      arith,
+      nat_tests,
+      next_of,
+      told_once,
+      is-told,
+      c.do_step-met.ensures.done,
+      c.time-begun.ensures.time,
+      c.once_told.ensures,
+      c.do_step-met.ensures.stop,
+    )

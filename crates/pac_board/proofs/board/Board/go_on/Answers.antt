@@ -1,7 +1,9 @@
 -- A batch of the machine's that is one step is a stretch of the board's, which counts it.
+use Rattle.std.proofs.Common.{rules}
+use Rattle.std.proofs.lemmas.Bool.Decides.{nat_tests}
 use Rattle.pac_board.proofs.Common.{BoardStanding, BoardValue, BoardView, Due, HasBatch, IsStretched, List, MakesBatch, Moment, Option}
 use Rattle.pac_board.proofs.Common.{Stop, ap, arith, batch_at, by_view, refl, step, step-timely, steps_counted, subst, suc, ℕ, ℤ, ◌+◌, ◌-◌}
-use Rattle.pac_board.proofs.Common.{◌≡◌, ◌≤◌}
+use Rattle.pac_board.proofs.Common.{◌≤◌}
 use Rattle.pac_board.proofs.Stretches.{single-goes}
 use Rattle.pac_board.proofs.Walked.{walked-after}
 use Rattle.pac_board.proofs.board.Board.go_on.Goals as goal
@@ -23,28 +25,10 @@ module _ {old new : BoardStanding} {limit : ℕ} {stop : Option Stop} {given : L
 
   batch-held : (asked counted since : ℕ) (before : Due) → since ≤ old.now.steps
       → HasBatch (held old asked counted since before) limit stop given (held new asked counted since due)
-  batch-held asked counted since before earlier =
-      let later = steps-on in
-      let same = ap (λ (m : Moment BoardView). m.steps) made.now in
-      let count : steps_counted counted (new.now.steps - since)
-      ≡ steps_counted (steps_counted counted (old.now.steps - since)) ((batch_at old limit (suc made.tries)).now.steps - old.now.steps)
-      = omega arith in
-      record {
-        tries = made.tries;
-        going = made.going;
-        before = made.before;
-        board = λ i. record {
-          set = made.set i;
-          state = record { now = made.now i; asked = asked; due = due };
-          made = count i;
-        };
-        stop_is = made.stop_is;
-        outputs = made.outputs;
-      }
+  batch-held asked counted since before earlier = grind (arith, nat_tests, steps-on, steps_counted, batch_at)
 
 pub invariant_of-self : goal.invariant_of-self
-invariant_of-self c =
-    record { asked = c.self.invariant.asked; since = omega (arith, c.self.invariant.since, steps-on c.make_step-self-inside.ensures) }
+invariant_of-self c = search (rules, steps-on, c.self.invariant.asked, c.self.invariant.since, c.make_step-self-inside.ensures)
 
 pub returns-clause-made : goal.returns-clause-made
 returns-clause-made c =

@@ -1,5 +1,6 @@
 -- A stretch, and the offer of what it gave.
-use Rattle.pac_board.proofs.Common.{by_view, err_from_is_err_and, noted-sooner, step, sym, ◌∙◌}
+use Rattle.std.proofs.Common.{rules}
+use Rattle.pac_board.proofs.Common.{by_view, err_from_is_err_and, noted-sooner, sym, ◌∙◌}
 use Rattle.pac_board.proofs.Stretches.{no-stop, stretch-left, stretch-taken}
 use Rattle.pac_board.proofs.board.Board.stretch.Goals as goal
 
@@ -24,15 +25,12 @@ returns-clause-made g c =
 
 pub returns-in_err-give-clause-told : goal.returns-in_err-give-clause-told
 returns-in_err-give-clause-told g c =
-    rw c.in_err-give.ensures.board (noted-sooner (step (by_view c.args.self.now.set)) c.make_stretch-stopped.ensures.told
-    c.limit_for-near.ensures.within)
+    search (rules, noted-sooner, by_view, c.in_err-give.ensures.board, c.make_stretch-stopped.ensures.told, c.limit_for-near.ensures.within)
 
 pub returns-then-stopped-clause-told : goal.returns-then-stopped-clause-told
 returns-then-stopped-clause-told g c =
-    rw c.in_ok-give.ensures.0 (noted-sooner (step (by_view c.args.self.now.set)) c.make_stretch-stopped.ensures.told
-    c.limit_for-near.ensures.within)
+    search (rules, noted-sooner, by_view, c.in_ok-give.ensures.0, c.make_stretch-stopped.ensures.told, c.limit_for-near.ensures.within)
 
 pub returns-clause-told : goal.returns-clause-told
 returns-clause-told g c =
-    rw c.in_ok-give.ensures.0 (noted-sooner (step (by_view c.args.self.now.set)) c.make_stretch-stopped.ensures.told
-    c.limit_for-near.ensures.within)
+    search (rules, noted-sooner, by_view, c.in_ok-give.ensures.0, c.make_stretch-stopped.ensures.told, c.limit_for-near.ensures.within)

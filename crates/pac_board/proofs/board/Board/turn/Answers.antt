@@ -1,4 +1,6 @@
 -- A step, and the offer of what it gave.
+use Rattle.std.proofs.Common.{arith}
+use Rattle.std.proofs.lemmas.Bool.Decides.{nat_tests}
 use Rattle.std.proofs.lemmas.Result.{err_from_is_err_and}
 use Rattle.pac_board.proofs.Turns.{turn-left, turn-taken}
 use Rattle.pac_board.proofs.board.Board.turn.Goals as goal
@@ -9,5 +11,4 @@ returns-in_err-offer g c =
     rw told.1 (turn-left c.do_step-met.ensures.done c.in_err-offer.ensures)
 
 pub returns : goal.returns
-returns g c =
-    let given = c.in_ok-offer.ensures in (turn-taken c.do_step-met.ensures.done given.0 given.1, c.do_step-met.ensures.stop)
+returns g c = grind (arith, nat_tests, turn-taken, c.in_ok-offer.ensures, c.do_step-met.ensures.done, c.do_step-met.ensures.stop)
