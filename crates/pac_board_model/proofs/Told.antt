@@ -15,6 +15,7 @@ use Rattle.pac_board_model.proofs.Common.{register_at, registers_size, rules, sl
 use Rattle.pac_board_model.proofs.Common.{tabulate, tile_at, true, unwrap_or, video_memory, view-after-well-formed, view_after}
 use Rattle.pac_board_model.proofs.Common.{view_after_entries, view_after_write, watchdog_limit, work_at, ℕ, ◌%◌, ◌+◌, ◌-◌, ◌<◌, ◌==◌, ◌^◌}
 use Rattle.pac_board_model.proofs.Common.{◌||◌, ◌∙◌, ◌∷◌, ◌≡◌, ◌≤◌}
+use Rattle.pac_board_model.specs.History.{last_written}
 use Rattle.pac_map.specs.View as view
 use Rattle.pac_map.specs.Latched as latch
 
@@ -29,63 +30,30 @@ decided : {A : Type 0} (holds : A → A) (here : Bool) (byte : A) (older : Optio
     → cond here (holds byte) (holds (unwrap_or older first)) ≡ holds (unwrap_or (cond here (Some byte) older) first)
 decided holds here byte older first = search rules
 
-tile-written : (view : View) (place : BusPlace) (byte cell : ℕ) → cell < length view.tile
-    → slice_index (view_after_write view place byte).tile cell ≡ cond (is_same_place (Tile cell) place) byte (slice_index view.tile cell)
-tile-written view place byte cell lt = search rules
+-- the value of a place in a view, and what the place keeps of a byte
+abbrev value_at : View → BusPlace → ℕ
+value_at view (Tile cell) = slice_index view.tile cell
+value_at view (Colour cell) = slice_index view.colour cell
+value_at view (Work cell) = slice_index view.work cell
+value_at view (Coordinate place) = slice_index view.coordinates place
+value_at view (Wave register) = slice_index view.registers register
+value_at view _ = 0
 
-colour-written : (view : View) (place : BusPlace) (byte cell : ℕ) → cell < length view.colour
-    → slice_index (view_after_write view place byte).colour cell
-    ≡ cond (is_same_place (Colour cell) place) byte (slice_index view.colour cell)
-colour-written view place byte cell lt = search rules
+abbrev kept_at : BusPlace → ℕ → ℕ
+kept_at (Wave register) byte = kept_nibble register byte
+kept_at _ byte = byte
 
-work-written : (view : View) (place : BusPlace) (byte cell : ℕ) → cell < length view.work
-    → slice_index (view_after_write view place byte).work cell ≡ cond (is_same_place (Work cell) place) byte (slice_index view.work cell)
-work-written view place byte cell lt = search rules
+written : (view : View) (place to : BusPlace) (byte : ℕ) → IsWellFormed view → IsPlaceInRange place
+    → value_at (view_after_write view to byte) place ≡ cond (is_same_place place to) (kept_at place byte) (value_at view place)
+written view place to byte well lt = search rules
 
-coordinate-written : (view : View) (place : BusPlace) (byte cell : ℕ) → cell < length view.coordinates
-    → slice_index (view_after_write view place byte).coordinates cell
-    ≡ cond (is_same_place (Coordinate cell) place) byte (slice_index view.coordinates cell)
-coordinate-written view place byte cell lt = search rules
-
-register-written : (view : View) (place : BusPlace) (byte register : ℕ) → register < length view.registers
-    → slice_index (view_after_write view place byte).registers register
-    ≡ cond (is_same_place (Wave register) place) (kept_nibble register byte) (slice_index view.registers register)
-register-written view place byte register lt = search rules
-
-tile-viewed : (start : View) (entries : List Entry) (cell : ℕ) → IsWellFormed start → cell < ram_size
-    → slice_index (view_after_entries start entries).tile cell ≡ tile_at start entries cell
-tile-viewed start [] cell well lt = refl
-tile-viewed start (Write to byte ∷ older) cell well lt =
-    grind (arith, decided, tile-written, view-of-well-formed, tile-viewed start older cell well lt)
-tile-viewed start (entry ∷ older) cell well lt = tile-viewed start older cell well lt
-
-colour-viewed : (start : View) (entries : List Entry) (cell : ℕ) → IsWellFormed start → cell < ram_size
-    → slice_index (view_after_entries start entries).colour cell ≡ colour_at start entries cell
-colour-viewed start [] cell well lt = refl
-colour-viewed start (Write to byte ∷ older) cell well lt = let sized = (view-of-well-formed _ older well).colour in
-    grind (arith, colour-written, decided, colour-viewed start older cell well lt)
-colour-viewed start (entry ∷ older) cell well lt = colour-viewed start older cell well lt
-
-work-viewed : (start : View) (entries : List Entry) (cell : ℕ) → IsWellFormed start → cell < ram_size
-    → slice_index (view_after_entries start entries).work cell ≡ work_at start entries cell
-work-viewed start [] cell well lt = refl
-work-viewed start (Write to byte ∷ older) cell well lt = let sized = (view-of-well-formed _ older well).work in
-    grind (arith, decided, work-written, work-viewed start older cell well lt)
-work-viewed start (entry ∷ older) cell well lt = work-viewed start older cell well lt
-
-coordinate-viewed : (start : View) (entries : List Entry) (place : ℕ) → IsWellFormed start → place < coordinates_size
-    → slice_index (view_after_entries start entries).coordinates place ≡ coordinate_at start entries place
-coordinate-viewed start [] place well lt = refl
-coordinate-viewed start (Write to byte ∷ older) place well lt = let sized = (view-of-well-formed _ older well).coordinates in
-    grind (arith, coordinate-written, decided, coordinate-viewed start older place well lt)
-coordinate-viewed start (entry ∷ older) place well lt = coordinate-viewed start older place well lt
-
-register-viewed : (start : View) (entries : List Entry) (register : ℕ) → IsWellFormed start → register < registers_size
-    → slice_index (view_after_entries start entries).registers register ≡ register_at start entries register
-register-viewed start [] register well lt = sym (well.nibbles register)
-register-viewed start (Write to byte ∷ older) register well lt = let sized = (view-of-well-formed _ older well).registers in
-    grind (arith, decided, register-written, register-viewed start older register well lt)
-register-viewed start (entry ∷ older) register well lt = register-viewed start older register well lt
+viewed : (start : View) (entries : List Entry) (place : BusPlace) → IsWellFormed start → IsPlaceInRange place
+    → value_at (view_after_entries start entries) place
+    ≡ kept_at place (unwrap_or (last_written (is_same_place place) entries) (value_at start place))
+viewed start [] place well lt = search rules
+viewed start (Write to byte ∷ older) place well lt =
+    grind (arith, decided (kept_at place), written, view-of-well-formed, viewed start older place well lt)
+viewed start (entry ∷ older) place well lt = search (rules, viewed start older place well lt)
 
 held-viewed : (start : View) (entries : List Entry) → (view_after_entries start entries).held ≡ unwrap_or (last_held entries) start.held
 held-viewed start [] = refl
@@ -100,7 +68,8 @@ switches-viewed start (entry ∷ older) = switches-viewed start older
 
 answer-viewed : (program : List ℕ) (start : View) (entries : List Entry) (place : BusPlace) → IsWellFormed start → IsPlaceInRange place
     → answer (history_lookups program start entries) place ≡ answer (lookups_of program (view_after_entries start entries)) place
-answer-viewed program start entries place sized lt = grind (arith, colour-viewed, held-viewed, switches-viewed, tile-viewed, work-viewed)
+answer-viewed program start entries place sized lt =
+    search (rules, held-viewed start entries, switches-viewed start entries, viewed start entries place sized lt)
 
 read-viewed : (program : List ℕ) (start : View) (entries : List Entry) (address : ℕ) → IsWellFormed start
     → read program start entries address ≡ read_of program (view_after_entries start entries) address
@@ -124,28 +93,28 @@ module _ (start : View) (entries : List Entry) (well : IsWellFormed start) where
   sized = view-of-well-formed start entries well
 
   tile-listed : left.tile ≡ tabulate ram_size (tile_at start entries)
-  tile-listed = listed left.tile ram_size (tile_at start entries) sized.tile (λ cell below. tile-viewed start entries cell well below)
+  tile-listed = listed left.tile ram_size (tile_at start entries) sized.tile (λ cell below. viewed start entries (Tile cell) well below)
 
   colour-listed : left.colour ≡ tabulate ram_size (colour_at start entries)
   colour-listed =
-      listed left.colour ram_size (colour_at start entries) sized.colour (λ cell below. colour-viewed start entries cell well below)
+      listed left.colour ram_size (colour_at start entries) sized.colour (λ cell below. viewed start entries (Colour cell) well below)
 
   attributes-listed : view.sprite_attributes left
       ≡ tabulate attributes_size (λ place. work_at start entries (ram_size - attributes_size + place))
   attributes-listed =
       let long : length (drop 1008 left.work) ≡ 16 = length-drop 1008 left.work ∙ ap (λ n. n - 1008) sized.work in
       listed (drop 1008 left.work) 16 (λ place. work_at start entries (1008 + place)) long (λ place below.
-      get_or-drop 1008 left.work place 0 ∙ work-viewed start entries (1008 + place) well (omega arith))
+      get_or-drop 1008 left.work place 0 ∙ viewed start entries (Work (1008 + place)) well (omega arith))
 
   coordinates-listed : left.coordinates ≡ tabulate coordinates_size (coordinate_at start entries)
   coordinates-listed =
       listed left.coordinates coordinates_size (coordinate_at start entries) sized.coordinates (λ place below.
-      coordinate-viewed start entries place well below)
+      viewed start entries (Coordinate place) well below)
 
   registers-listed : left.registers ≡ history_registers start entries
   registers-listed =
       listed left.registers registers_size (register_at start entries) sized.registers (λ register below.
-      register-viewed start entries register well below)
+      viewed start entries (Wave register) well below)
 
 -- ---- the latch
 
@@ -297,9 +266,9 @@ view-tells set start entries fit =
     let first = start.memory in
     let well = fit.memory in
     let kept = memory-viewed set start entries in record {
-      tile = λ cell below. ap (λ memory. slice_index memory.tile cell) kept ∙ tile-viewed first entries cell well below;
-      colour = λ cell below. ap (λ memory. slice_index memory.colour cell) kept ∙ colour-viewed first entries cell well below;
-      work = λ cell below. ap (λ memory. slice_index memory.work cell) kept ∙ work-viewed first entries cell well below;
+      tile = λ cell below. ap (λ memory. slice_index memory.tile cell) kept ∙ viewed first entries (Tile cell) well below;
+      colour = λ cell below. ap (λ memory. slice_index memory.colour cell) kept ∙ viewed first entries (Colour cell) well below;
+      work = λ cell below. ap (λ memory. slice_index memory.work cell) kept ∙ viewed first entries (Work cell) well below;
       attributes = ap view.sprite_attributes kept ∙ attributes-listed first entries well;
       coordinates = ap (λ memory. memory.coordinates) kept ∙ coordinates-listed first entries well;
       registers = registers-kept set start entries well;
