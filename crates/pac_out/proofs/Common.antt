@@ -10,7 +10,6 @@ pub use Rattle.pac_out.specs.Pieces.{joined_pieces}
 pub use Rattle.pac_out.specs.Writes.{StopsAfter}
 pub use Rattle.pac_out.specs.WritesProofs.{lent_refused, lent_took}
 pub use Rattle.pac_out.specs.declared.WriteFault.{WriteFault}
-pub use Rattle.pac_out.specs.declared.buffer.HostBuffer.{HostBuffer}
 pub use Rattle.pac_out.specs.declared.counted.Counted.{Counted}
 pub use Rattle.std.proofs.Common.{Err, List, Ok, Result, [], ap, append-nil, append_assoc, arith, drop, length, length-append, length-drop}
 pub use Rattle.std.proofs.Common.{refl, rules, subst, sym, true≢false, ℕ, ◌++◌, ◌+◌, ◌<◌, ◌^◌, ◌∙◌, ◌≡◌, ◌≤◌}

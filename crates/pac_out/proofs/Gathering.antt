@@ -1,7 +1,10 @@
 -- A text that is gathered in parts: what is done of it, and what is left.
-use Rattle.pac_out.proofs.Common.{Counted, Err, Gathers, HasPut, Holds, List, Ok, Puts, Refuses, Result, Takes, WriteFault, [], ap}
+use Rattle.std.proofs.Common.{arith}
+use Rattle.std.proofs.Common.{rules}
+use Rattle.std.proofs.lemmas.Bool.Decides.{nat_tests}
+use Rattle.pac_out.proofs.Common.{Counted, Err, Gathers, Holds, List, Ok, Puts, Refuses, Result, Takes, WriteFault, [], ap}
 use Rattle.pac_out.proofs.Common.{append-nil, append_assoc, refl, subst, sym, ℕ, ◌++◌, ◌∙◌, ◌≡◌}
-use Rattle.pac_out.proofs.Files.{takes-nothing, takes-joined, put-after, refuses-after, refuses-within}
+use Rattle.pac_out.proofs.Files.{takes-nothing, takes-joined, refuses-after, refuses-within}
 
 -- Of this text a part is gathered, after what waited, and the rest is left.
 pub record Leaves {W : Type 0} (took : W → List ℕ → W → Type 0) (waiting : List ℕ) (old : Counted W) (text rest later : List ℕ)
@@ -28,35 +31,19 @@ module _ {W : Type 0} {took : W → List ℕ → W → Type 0} {old : Counted W}
       subst (λ (later : List ℕ). Holds took old (waiting ++ bytes) later new) (sym empty) (holds-written (takes-joined takes puts.takes))
   gathers-put refused (Err fault) bytes new takes puts empty = refuses-after takes puts
 
-  -- what waits of a gathered text is written
-  pub puts-gathered : {A : Type 0} (refused : W → W → Type 0) (result : Result A WriteFault) (new : Counted W) {text waiting : List ℕ}
-      {mid : Counted W} → Holds took old text waiting mid → Puts took refused mid waiting result new → Puts took refused old text result new
-  puts-gathered refused (Ok done) new holds puts =
-      subst (λ (text : List ℕ). HasPut took old text new) (sym holds.parts) (put-after holds.takes puts)
-  puts-gathered refused (Err fault) new holds puts =
-      subst (λ (text : List ℕ). Refuses took refused old text fault new) (sym holds.parts) (refuses-after holds.takes puts)
-
 module _ {W : Type 0} {took : W → List ℕ → W → Type 0} {waiting : List ℕ} {old : Counted W} where
   -- nothing is done yet
   pub leaves-all : (text : List ℕ) → Leaves took waiting old text text waiting old
-  leaves-all text = record {
-    done = [];
-    parts = refl;
-    holds = subst (λ (all : List ℕ). Holds took old all waiting old)
-        (sym (append-nil waiting)) (holds-waiting waiting);
-  }
+  leaves-all text = grind (arith, nat_tests, append-nil, holds-waiting)
 
   -- all is done
   pub leaves-nothing : {text later : List ℕ} {new : Counted W} → Leaves took waiting old text [] later new
       → Holds took old (waiting ++ text) later new
-  leaves-nothing {later = later} {new = new} leaves =
-      subst (λ (all : List ℕ). Holds took old (waiting ++ all) later new) (sym (leaves.parts ∙ append-nil leaves.done)) leaves.holds
+  leaves-nothing {later = later} {new = new} leaves = grind (arith, nat_tests, append-nil)
 
   whole : (one rest : List ℕ) {text later : List ℕ} {mid : Counted W} (leaves : Leaves took waiting old text (one ++ rest) later mid)
       → leaves.holds.put ++ (later ++ one) ≡ waiting ++ (leaves.done ++ one)
-  whole one rest {later = later} leaves =
-      sym (append_assoc leaves.holds.put later one) ∙ ap (λ all. all ++ one) (sym leaves.holds.parts)
-      ∙ append_assoc waiting leaves.done one
+  whole one rest {later = later} leaves = grind (arith, nat_tests, append_assoc)
 
   -- one more part is gathered
   pub leaves-less : (one rest : List ℕ) {text mid_later later : List ℕ} {mid new : Counted W}
@@ -90,9 +77,7 @@ module _ {W : Type 0} {took : W → List ℕ → W → Type 0} {old : Counted W}
   pub gathers-both : {A : Type 0} (result : Result A WriteFault) (later : List ℕ) (new : Counted W) {mid_later : List ℕ} {mid : Counted W}
       → Holds took old (waiting ++ one) mid_later mid → Gathers took refused mid_later mid other result later new
       → Gathers took refused waiting old (one ++ other) result later new
-  gathers-both (Ok done) later new {mid_later} {mid} first second =
-      leaves-nothing (leaves-less other [] (subst (λ (rest : List ℕ). Leaves took waiting old (one ++ other) rest mid_later mid)
-      (sym (append-nil other)) (leaves-less one other (leaves-all (one ++ other)) first)) second)
+  gathers-both (Ok done) later new {mid_later} {mid} first second = search (rules, leaves-nothing, leaves-less, append-nil, leaves-all)
   gathers-both (Err fault) later new {mid_later} {mid} first second =
       leaves-refused other [] (subst (λ (rest : List ℕ). Leaves took waiting old (one ++ other) rest mid_later mid)
       (sym (append-nil other)) (leaves-less one other (leaves-all (one ++ other)) first)) second

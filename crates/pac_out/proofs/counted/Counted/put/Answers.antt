@@ -1,24 +1,10 @@
+use Rattle.std.proofs.lemmas.Bool.Decides.{nat_tests}
 use Rattle.pac_out.proofs.Common.{CountedWriter, ap, arith, length-append, refl, sym, true≢false, ◌∙◌}
 use Rattle.pac_out.proofs.Files.{stops-after}
 use Rattle.pac_out.proofs.counted.Counted.put.Goals as goal
 
 pub returns-in-Ok-clause-put : goal.returns-in-Ok-clause-put
-returns-in-Ok-clause-put g c =
-    let was_open = ap (λ (file : CountedWriter g.row.W.Denot). file.failed) c.self.view_is ∙ c.in_ok-check_open.ensures.open in
-    rw (← c.self.view_is)
-    (record {
-      was_open = was_open;
-      takes = record {
-        at_least = omega arith;
-        after = λ start text taken. record {
-          written = g.met.W.Out.joined _ _ _ _ _ taken.written c.in-Ok.ensures.ok;
-          count_is = rw length-append (omega (arith, taken.count_is));
-          open_yet = taken.open_yet;
-        };
-        failed_is = refl;
-        later = λ failed. absurd (true≢false (sym failed ∙ was_open));
-      };
-    })
+returns-in-Ok-clause-put g c = grind (arith, nat_tests, length-append, c.in_ok-check_open.ensures.open, c.in-Ok.ensures.ok)
 
 pub returns-in-Err-clause-put : goal.returns-in-Err-clause-put
 returns-in-Err-clause-put g c =

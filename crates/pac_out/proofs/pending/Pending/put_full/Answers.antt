@@ -1,4 +1,5 @@
-use Rattle.pac_out.proofs.Common.{err_from_is_err_and, ◌∙◌}
+use Rattle.std.proofs.Common.{rules}
+use Rattle.pac_out.proofs.Common.{err_from_is_err_and}
 use Rattle.pac_out.proofs.Files.{refuses-within}
 use Rattle.pac_out.proofs.Gathering.{gathers-put}
 use Rattle.pac_out.proofs.pending.Pending.put_full.Goals as goal
@@ -10,5 +11,4 @@ returns-in_err-flush g c =
 
 pub returns : goal.returns
 returns g c =
-    gathers-put g.W.Out.refused c.put.result c.args.bytes.now c.put.new.self c.in_ok-flush.ensures.put.takes c.put.ensures.put
-    (c.if-keep.ensures ∙ c.in_ok-flush.ensures.emptied)
+    search (rules, gathers-put, c.in_ok-flush.ensures.put.takes, c.put.ensures.put, c.if-keep.ensures, c.in_ok-flush.ensures.emptied)

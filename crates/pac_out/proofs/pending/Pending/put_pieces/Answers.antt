@@ -1,3 +1,5 @@
+use Rattle.std.proofs.Common.{arith}
+use Rattle.std.proofs.lemmas.Bool.Decides.{nat_tests}
 use Rattle.pac_out.proofs.Common.{List, [], ap, drop, drop_more, err_from_is_err_and, flat_map, subst, ℕ, ◌+◌}
 use Rattle.pac_out.proofs.Gathering.{Leaves, leaves-less, leaves-refused}
 use Rattle.pac_out.proofs.pending.Pending.put_pieces.Goals as goal
@@ -14,9 +16,4 @@ returns-in_err-put g c =
 
 pub loop-piece-preserved : goal.loop-piece-preserved
 loop-piece-preserved g c =
-    let pieces = c.args.pieces.now in
-    let i = c.loop-piece.piece-index in
-    let first = ap (flat_map (λ piece. piece.now)) (drop_more pieces i (record { ref_ptr = (0, 0); now = [] }) c.loop-piece-test.true) in
-    let leaves = subst (λ (rest : List ℕ). Leaves g.W.Out.took c.args.self.now c.args.file.now (flat_map (λ piece. piece.now) pieces) rest
-    c.loop-piece.self c.loop-piece.file) first c.loop-piece.invariant in
-    leaves-less _ (flat_map (λ piece. piece.now) (drop (i + 1) pieces)) leaves c.in_ok-put.ensures
+    grind (arith, nat_tests, flat_map, drop_more, leaves-less, c.loop-piece-test.true, c.loop-piece.invariant, c.in_ok-put.ensures)
