@@ -12,12 +12,10 @@ pub use Rattle.pac_roms_manifest.specs.Manifests.{document_table, entry_form, en
 unfoldable pub use Rattle.pac_roms_manifest.specs.Manifests.{manifest_of}
 pub use Rattle.pac_roms_manifest.specs.Parts.{parts_in_order, rom_part_size}
 pub use Rattle.pac_roms_manifest.specs.Results.{ReadsAs, ReadsValue, SetGives}
-pub use Rattle.pac_roms_manifest.specs.Sets.{bytes_named, code_of_part, digest_of, fault_at, fault_of_set, file_fault, first_answer}
-pub use Rattle.pac_roms_manifest.specs.Sets.{is_unnamed, needs_table, parts_of_set, program_bytes, two_programs_fault, unnamed_fault}
+pub use Rattle.pac_roms_manifest.specs.Sets.{bytes_named, code_of_part, fault_at, fault_of_set, file_fault, first_answer, is_unnamed}
+pub use Rattle.pac_roms_manifest.specs.Sets.{needs_table, parts_of_set, program_bytes, two_programs_fault, unnamed_fault}
 unfoldable pub use Rattle.pac_roms_manifest.specs.Sets.{rom_part_bytes, set_of}
 pub use Rattle.pac_roms_manifest.specs.declared.fault.ManifestCode.TheVariants.{Unnamed}
-pub use Rattle.pac_roms_manifest.specs.declared.fault.SetError.{SetError}
-pub use Rattle.pac_roms_manifest.specs.declared.fault.SetFault.{SetFault}
 pub use Rattle.pac_roms_manifest.specs.declared.manifest.Manifest.{Manifest}
 pub use Rattle.pac_roms_manifest.specs.declared.part.Part.{Part}
 pub use Rattle.pac_roms_manifest.specs.declared.part.PartName.{PartName}
