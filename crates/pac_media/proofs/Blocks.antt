@@ -37,7 +37,6 @@ split-pieces f size other (x ∷ xs) (suc count) each fits =
 put-pieces : {X Y : Type 0} (f : X → List Y) (size : ℕ) (other : X) (xs ys : List X) (at count : ℕ) → ArePieces f size other xs →
     at + count ≤ length xs → put_mid (size * at) (size * count) (flat_map f xs) (flat_map f ys) ≡ flat_map f (put_mid at count xs ys)
 put-pieces f size other xs ys at count each fits =
-    let both : size * at + size * count ≡ size * (at + count) = omega arith in
     let before = split-pieces f size other xs at each (omega (arith, fits)) in
     let after = split-pieces f size other xs (at + count) each fits in
     grind (arith, flat_map-append, drop-drop)
@@ -74,7 +73,6 @@ block-drawn palette numbers pixels kept block piece start part size long same in
     let whole : length block ≡ 16 = rw is (length-take-le 16 (drop start numbers) (omega (arith, left, long, inside))) in
     let threes : part ≡ 3 * 16 = omega (arith, is_part) in
     let within : start + 16 ≤ length kept = omega (arith, same, inside) in
-    let stop : start + 16 ≡ start + length block = omega (arith, whole) in
     let block_below : AreNumbers block = rw is (numbers-take 16 _ (numbers-drop start numbers was.new)) in
     let pieces = length-pieces (palette_colour palette) 3 0 block (line-pieces palette block was.colours block_below) in
     let wide : length piece ≡ part = rw coloured (omega (arith, pieces, whole, is_part)) in

@@ -1,6 +1,5 @@
-use Rattle.std.proofs.Common.{ap, arith, drop, take, ◌+◌, ◌-◌, ◌∙◌, ◌≡◌}
+use Rattle.std.proofs.lemmas.Bool.Decides.{nat_tests}
+use Rattle.std.proofs.Common.{arith}
 
 pub returns : Rattle.pac_media.proofs.image.word_at.Goals.returns
-returns c =
-    let eight : c.args.start + 8 - c.args.start ≡ 8 = omega arith in
-    c.word.ensures ∙ ap (λ n. take n (drop c.args.start c.args.numbers.now)) eight
+returns c = grind (arith, nat_tests, c.word.ensures)
