@@ -1,12 +1,12 @@
 -- What lines give to a sink, whatever they ask: what was due, and what the run gives from one furthest index to the next.
-use Rattle.pac_debug.proofs.Common.{Answer, AnswersBack, AnswersReturn, Asks, Bool, Command, CommandFault, Cut, Err, GaveAll, GaveSome}
-use Rattle.pac_debug.proofs.Common.{Giving, IsCommandDone, IsCommandObeyed, IsCommandPerformed, IsCommandRefused, IsFinishRefused}
-use Rattle.pac_debug.proofs.Common.{IsFurther, IsSessionOfferRefused, LinesGive, List, Motion, NoCommand, None, ObeysLines, Ok, Option}
-use Rattle.pac_debug.proofs.Common.{Output, Result, Scene, SessionValue, SetsBreakpoint, Setting, Some, Stays, TookAll, [], ap}
-use Rattle.pac_debug.proofs.Common.{append_assoc, arith, between-joined, between-self, command_of, cut-after, cut-along, due_outputs_in}
-use Rattle.pac_debug.proofs.Common.{joined-to-end, max, nothing_due, now_at, outputs_between, outputs_from, outputs_to_give, outputs_until}
-use Rattle.pac_debug.proofs.Common.{refl, rules, session_at_command, session_due_outputs, session_without_due, sym, took-both, ℕ, ◌++◌, ◌+◌}
-use Rattle.pac_debug.proofs.Common.{◌∙◌, ◌∷◌, ◌≡◌, ◌≤◌, ◌⊎◌}
+use Rattle.pac_debug.proofs.Common.{Answer, AnswersReturn, Asks, Bool, Command, CommandFault, Err, GaveAll, GaveSome, Giving, IsCommandDone}
+use Rattle.pac_debug.proofs.Common.{IsCommandObeyed, IsCommandPerformed, IsCommandRefused, IsFinishRefused, IsFurther}
+use Rattle.pac_debug.proofs.Common.{IsSessionOfferRefused, LinesGive, List, Motion, NoCommand, None, ObeysLines, Ok, Option, Output, Result}
+use Rattle.pac_debug.proofs.Common.{Scene, SessionValue, SetsBreakpoint, Setting, Some, Stays, TookAll, [], ap, append_assoc, arith}
+use Rattle.pac_debug.proofs.Common.{between-joined, between-self, command_of, cut-after, cut-along, due_outputs_in, joined-to-end}
+use Rattle.pac_debug.proofs.Common.{nothing_due, now_at, outputs_between, outputs_from, outputs_to_give, outputs_until, refl, rules}
+use Rattle.pac_debug.proofs.Common.{session_at_command, session_due_outputs, session_without_due, sym, took-both, ℕ, ◌++◌, ◌∙◌, ◌∷◌, ◌≡◌}
+use Rattle.pac_debug.proofs.Common.{◌≤◌, ◌⊎◌}
 use mathlib.Core.Logic.{inl, inr}
 use Rattle.pac_debug.specs.declared.line.CommandFault.TheVariants as faults
 
@@ -25,9 +25,6 @@ like old new other is setting furthest due = search rules
 still : (old new : SessionValue) → new ≡ old → IsStill old new
 still old new same = like old new old same refl refl refl
 
-went-back : (old : SessionValue) (count : ℕ) (answer : Answer) (new : SessionValue) → AnswersBack old count answer new → IsStill old new
-went-back old count answer new went = search rules
-
 returned : (old : SessionValue) (kept : Option ℕ) (answer : Answer) (new : SessionValue) → AnswersReturn old kept answer new
     → IsStill old new
 returned old kept answer new came = search rules
@@ -37,7 +34,7 @@ set-there : (old : SessionValue) (address : ℕ) (is_set : Bool) (answer : Answe
 set-there old address is_set answer new done = search rules
 
 stays : (old : SessionValue) (command : Command) (answer : Answer) (new : SessionValue) → Stays old command answer new → IsStill old new
-stays old command answer new done = grind (arith, like, returned, set-there, still, went-back)
+stays old command answer new done = grind (arith, like, returned, set-there, still)
 
 -- ---- a line with words
 
@@ -58,7 +55,7 @@ module _ {S : Type 0} (took : S → Output → S → Type 0) where
 
   done-still : (old : SessionValue) (sink : S) (new : SessionValue) (later : S) → old.due ≡ nothing_due → IsStill old new → later ≡ sink
       → HasDone old sink new later
-  done-still old sink new later none stayed same = grind (arith, none-between)
+  done-still old sink new later none stayed same = grind (arith, between-self)
 
   performed : (old : SessionValue) (command : Command) (found : Option Motion) (sink : S) (answer : Answer) (new : SessionValue) (later : S)
       → old.due ≡ nothing_due → IsCommandPerformed took old command found sink answer new later → HasDone old sink new later
@@ -79,24 +76,17 @@ module _ {S : Type 0} (took : S → Output → S → Type 0) where
 module _ {S : Type 0} (to : Giving S) where
   offer-refused : (old : SessionValue) (sink : S) (new : SessionValue) (later : S)
       → IsSessionOfferRefused to (session_at_command old) sink new later → GaveSome to old sink new later
-  offer-refused old sink new later refusal = grind (arith, cut-along, none-between)
-
-  -- after a step that was refused the session is at its furthest index
-  step-given : (old : SessionValue) (sink : S) (new : SessionValue) (later : S) (last : ℕ) → new.setting ≡ old.setting
-      → new.furthest ≡ max old.furthest new.index → new.index ≡ last + 1 → old.furthest ≤ last
-      → Cut to sink (session_due_outputs old ++ outputs_between old.setting old.furthest new.index) (session_due_outputs new) later
-      → GaveSome to old sink new later
-  step-given old sink new later last same most index fresh cut = search rules
+  offer-refused old sink new later refusal = grind (arith, between-self)
 
   refused-given : (old : SessionValue) (asked : Result Command NoCommand) (sink : S) (new : SessionValue) (later : S)
       → IsCommandRefused to old asked sink new later → GaveSome to old sink new later
   refused-given old asked sink new later (inl refusal) = offer-refused old sink new later refusal
-  refused-given old asked sink new later (inr refusal) = grind (arith, cut-after, step-given)
+  refused-given old asked sink new later (inr refusal) = grind (arith, cut-after)
 
   pub finish-given : (old : SessionValue) (sink : S) (new : SessionValue) (later : S)
       → IsSessionOfferRefused to (session_at_command old) sink new later ⊎ IsFinishRefused to old sink new later
       → GaveSome to old sink new later
-  finish-given old sink new later refusal = grind (arith, offer-refused, step-given)
+  finish-given old sink new later refusal = grind (arith, offer-refused)
 
 -- ---- one after another
 
@@ -146,11 +136,6 @@ module _ {S : Type 0} (to : Giving S) where
     sink_is = took-both to.took first.taken second.taken sink between later first.sink_is second.sink_is;
   }
 
-  gave-after : {A : Type 0} (result : Result A CommandFault) (old mid new : SessionValue) (sink between later : S)
-      → GaveAll to.took old sink mid between → LinesGive to mid between result new later → LinesGive to old sink result new later
-  gave-after (Err faults.Refused) old mid new sink between later first second = some-after old mid new sink between later first second
-  gave-after result old mid new sink between later first second = all-after old mid new sink between later first second
-
   -- ---- lines
 
   module _ {W : Type 0} (wrote : W → List ℕ → W → Type 0) (balked : W → W → Type 0) where
@@ -166,8 +151,7 @@ module _ {S : Type 0} (to : Giving S) where
     lines-given [] (Ok done) old new same = grind (arith, none-given)
     lines-given [] (Err fault) old new obeyed = absurd obeyed
     lines-given (line ∷ more) (Ok done) old new obeyed =
-        gave-after {A = Unit {0}} (Ok done) old.session obeyed.between.session new.session old.sink obeyed.between.sink new.sink
-        (line-given (command_of line) (Ok tt) old obeyed.between obeyed.before) (lines-given more (Ok done) obeyed.between new obeyed.after)
+        grind (arith, line-given, obeyed, all-after, some-after, lines-given more (Ok done) obeyed.between new obeyed.after)
     lines-given (line ∷ more) (Err fault) old new (inl here) = line-given (command_of line) (Err fault) old new here
     lines-given (line ∷ more) (Err fault) old new (inr later) =
-        search (rules, arith, gave-after, line-given, lines-given more (Err fault) later.between new later.after)
+        grind (arith, line-given, all-after, some-after, lines-given more (Err fault) later.between new later.after)

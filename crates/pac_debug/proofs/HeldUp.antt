@@ -1,12 +1,11 @@
 -- A session that its sink held up: it told what those lines tell that give no more than the sink took.
-use Rattle.pac_debug.proofs.Common.{Bool, Command, FirstGivesMore, Giving, IsCommandObeyed, IsCommandPerformed, IsFinishRefused}
-use Rattle.pac_debug.proofs.Common.{IsSessionOfferRefused, IsTravelRefused, IsWatchRefused, List, Motion, NoCommand, None, Ok, Option}
-use Rattle.pac_debug.proofs.Common.{Output, RefusedAt, RefusedOf, Result, Scene, SessionValue, Setting, Some, TellsAll, TellsOfCommand}
-use Rattle.pac_debug.proofs.Common.{ToldUpTo, [], answer_text, ap, append-nil, arith, between-joined, command_of, common_steps, ending_of}
-use Rattle.pac_debug.proofs.Common.{false, given_by, joined-to-end, length, length-append, max, nat_le, nat_tests, nothing_due}
-use Rattle.pac_debug.proofs.Common.{outputs_between, outputs_from, outputs_until, refl, rules, run, session_at_command, session_at_start}
-use Rattle.pac_debug.proofs.Common.{session_due_outputs, session_without_due, subst, sym, takes_all, true, whole_run, ℕ, ◌++◌, ◌+◌, ◌<◌}
-use Rattle.pac_debug.proofs.Common.{◌∙◌, ◌∷◌, ◌≡◌, ◌≤◌, ◌⊎◌}
+use Rattle.pac_debug.proofs.Common.{Bool, Command, FirstGivesMore, Giving, IsCommandObeyed, IsSessionOfferRefused, IsTravelRefused}
+use Rattle.pac_debug.proofs.Common.{IsWatchRefused, List, Motion, NoCommand, None, Ok, Option, Output, RefusedAt, RefusedOf, Result, Scene}
+use Rattle.pac_debug.proofs.Common.{SessionValue, Setting, Some, TellsAll, TellsOfCommand, ToldUpTo, [], answer_text, ap, append-nil, arith}
+use Rattle.pac_debug.proofs.Common.{between-joined, command_of, common_steps, ending_of, false, given_by, joined-to-end, length}
+use Rattle.pac_debug.proofs.Common.{length-append, max, nat_le, nat_tests, nothing_due, outputs_between, outputs_from, outputs_until, refl}
+use Rattle.pac_debug.proofs.Common.{rules, run, session_at_command, session_at_start, session_due_outputs, session_without_due, subst, sym}
+use Rattle.pac_debug.proofs.Common.{takes_all, true, whole_run, ℕ, ◌++◌, ◌+◌, ◌<◌, ◌∙◌, ◌∷◌, ◌≡◌, ◌≤◌}
 use mathlib.Core.Logic.{inl, inr}
 use Rattle.pac_debug.specs.declared.answer.Answer.TheVariants as answers
 use Rattle.pac_debug.proofs.Giving.{nothing-given}
@@ -116,8 +115,6 @@ module _ {S : Type 0} (to : Giving S) (setting : Setting) (taken : List Output) 
       let held = refusal.held_up in
       let rest = comes-to-rest (session_without_due old) held.motion in
       let answer = answers.Moved (ending_of rest.why) in
-      let moved : IsCommandPerformed takes_all (session_without_due old) held.command (Some held.motion) tt answer rest.new tt
-      = record { why = rest.why; travelled = rest.travelled; answer_is = refl } in
       let done : IsCommandObeyed takes_all (session_without_due old) (Ok held.command) tt answer rest.new tt = search rules in
       record {
         no_more = less-told held.motion refusal.between held.held_up;
@@ -131,18 +128,13 @@ module _ {S : Type 0} (to : Giving S) (setting : Setting) (taken : List Output) 
         more = gives-more held.motion refusal.between held.held_up;
       }
 
-  at-end : IsSessionOfferRefused to (session_at_command old) sink new later ⊎ IsFinishRefused to old sink new later
-      → length (given_by old) ≤ length taken
-  at-end (inl refusal) = none-offered refusal
-  at-end (inr gone) = grind (arith, no-more, nothing-given)
-
   -- the next line, if there is one, gives more
   record HeldUpIn (lines : List (List ℕ)) : Type 0 where
     pub no_more : length (given_by old) ≤ length taken
     pub next : FirstGivesMore lines old taken
 
   held-up-in : (lines : List (List ℕ)) → RefusedAt to lines old sink new later → HeldUpIn lines
-  held-up-in [] refusal = record { no_more = at-end refusal; next = tt }
+  held-up-in [] refusal = grind (arith, common_steps, no-more, none-offered, nothing-given)
   held-up-in (line ∷ more) refusal =
       let here = at-line (command_of line) refusal in
       record { no_more = here.no_more; next = record { text = here.text; new = here.next; tells = here.tells; more = here.more } }

@@ -1,7 +1,7 @@
 -- What lines that go on offer to the sink: each output in order, until it is taken.
 use Rattle.pac_debug.proofs.Common.{AreInOrder, CommandFault, Err, Giving, IsFurther, LinesGive, List, Offered, Output, Result}
 use Rattle.pac_debug.proofs.Common.{SessionValue, TookAll, WasOffered, WasRefused, WasTaken, [], arith, between-joined, between-self}
-use Rattle.pac_debug.proofs.Common.{outputs_between, outputs_until, refl, rules, session_due_outputs, subst, ◌++◌, ◌∷◌, ◌≡◌}
+use Rattle.pac_debug.proofs.Common.{common_steps, outputs_between, outputs_until, refl, rules, session_due_outputs, subst, ◌++◌, ◌∷◌, ◌≡◌}
 use Rattle.pac_debug.specs.declared.line.CommandFault.TheVariants as faults
 use Rattle.pac_debug.proofs.Giving.{further-on}
 
@@ -33,8 +33,7 @@ order-both (output ∷ outputs) more (WasRefused given ∷ first) second left la
 module _ {S : Type 0} (to : Giving S) where
   all-offered : (outputs : List Output) (old new : S) → TookAll to.took old outputs new → WasOffered to old (taken_offers outputs) new
   all-offered [] old new same = same
-  all-offered (output ∷ more) old new took =
-      record { between = took.between; before = took.before; after = all-offered more took.between new took.after }
+  all-offered (output ∷ more) old new took = grind (arith, common_steps, all-offered more took.between new took.after)
 
   offered-both : (first second : List Offered) (old between new : S) → WasOffered to old first between → WasOffered to between second new
       → WasOffered to old (first ++ second) new
@@ -59,7 +58,6 @@ module _ {S : Type 0} (to : Giving S) where
       → LinesGive to old sink answer new later → HasGiven old sink new later
   gave-by (Err faults.Refused) old sink new later gave =
       let cut = gave.cut in
-      let offers = taken_offers cut.taken ++ WasRefused cut.refuses.first ∷ [] in
       let offered_is =
       offered-both (taken_offers cut.taken) (WasRefused cut.refuses.first ∷ []) sink cut.refuses.asked later
       (all-offered cut.taken sink cut.refuses.asked cut.refuses.before)
@@ -75,8 +73,6 @@ module _ {S : Type 0} (to : Giving S) where
   pub gave-on : (old mid new : SessionValue) (sink between later : S) → HasGiven old sink mid between → HasGiven mid between new later
       → HasGiven old sink new later
   gave-on old mid new sink between later first second =
-      let due = session_due_outputs old in
-      let given = outputs_between old.setting old.furthest mid.furthest in
       let joined : outputs_until old mid ++ outputs_between mid.setting mid.furthest new.furthest ≡ outputs_until old new
       = grind (arith, between-joined) in
       let further_is = further-on old mid new first.further second.further in

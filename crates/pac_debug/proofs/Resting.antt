@@ -160,5 +160,4 @@ all_lines_tell [] old few = record { text = []; new = old; tells = (refl, refl);
 all_lines_tell (line ∷ more) old few =
     let first = line-tells (command_of line) old few in
     let rest = all_lines_tell more first.new first.few in
-    let text_is = first.told ++ rest.text in
     let tells_is = told-then line more old first.new rest.new first.told rest.text first.holds rest.tells in grind (arith, told-then)

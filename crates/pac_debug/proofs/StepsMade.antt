@@ -3,12 +3,11 @@ use Rattle.pac_debug.proofs.Common.{Answer, AnswersReturn, AreSeen, BoardView, B
 use Rattle.pac_debug.proofs.Common.{IsCommandObeyed, IsCommandPerformed, IsHeldUpAt, IsSeen, IsSession, LeavesEach, LeavesLine, LineAnswer}
 use Rattle.pac_debug.proofs.Common.{LinesMakeNoMore, List, MakesNoMore, Moment, Motion, NoCommand, None, Ok, Option, Outcome, RefusedAt}
 use Rattle.pac_debug.proofs.Common.{Result, Scene, SessionValue, SessionsMakeNoMore, SetsBreakpoint, Some, Stays, TellsAll, TellsOfCommand}
-use Rattle.pac_debug.proofs.Common.{WatchesSession, [], all-seen-later, all_steps_again, ap, arith, cases_lt, command_of, false, get_or}
-use Rattle.pac_debug.proofs.Common.{goes_at, has_breakpoint, has_met, moved_to, nat_lt, not-false, open-up-to, or_parts, rests, rules}
-use Rattle.pac_debug.proofs.Common.{run-ends, seen-set, session_with_slot, session_without_due, slot_index, steps_again, suc, takes_all}
-use Rattle.pac_debug.proofs.Common.{true, whole-at-end, whole_run, zero, ℕ, ◌++◌, ◌+◌, ◌<◌, ◌∙◌, ◌∷◌, ◌≡◌, ◌≤◌}
+use Rattle.pac_debug.proofs.Common.{WatchesSession, [], all-seen-later, all_steps_again, ap, arith, command_of, false, get_or, goes_at}
+use Rattle.pac_debug.proofs.Common.{has_met, moved_to, not-false, open-up-to, or_parts, rests, rules, run-ends, seen-set}
+use Rattle.pac_debug.proofs.Common.{session_without_due, steps_again, suc, takes_all, true, whole-at-end, whole_run, zero, ℕ, ◌++◌, ◌+◌}
+use Rattle.pac_debug.proofs.Common.{◌<◌, ◌∙◌, ◌∷◌, ◌≡◌, ◌≤◌}
 use mathlib.Core.Logic.{inl, inr}
-use Rattle.pac_debug_text.specs.declared.command.Command.TheVariants as commands
 use Rattle.pac_debug.specs.declared.line.CommandFault.TheVariants as faults
 use Rattle.pac_debug.proofs.GoingOn.{comes-to, held-at}
 
@@ -27,21 +26,10 @@ record Makes (again : ℕ → ℕ) (old new : SessionValue) : Type 0 where
   pub further : old.furthest ≤ new.furthest
   pub made : (furthest : ℕ) → new.furthest ≤ furthest → new.made + old.index ≤ old.made + new.index + again furthest
 
--- the same run, indices and slots, and no step
-record IsUnmoved (old new : SessionValue) : Type 0 where
-  pub setting : new.setting ≡ old.setting
-  pub index : new.index ≡ old.index
-  pub furthest : new.furthest ≡ old.furthest
-  pub slots : new.slots ≡ old.slots
-  pub made : new.made ≡ old.made
-
-unmoved : (again : ℕ → ℕ) (old new : SessionValue) → Stands old → IsUnmoved old new → Makes again old new
-unmoved again old new stands kept = search rules
-
 -- so it is where nothing else changed than this
 still : (again : ℕ → ℕ) (old new : SessionValue) (breakpoints : List ℕ) (due : Due) (replayed : ℕ) → Stands old
     → new ≡ record old { breakpoints = breakpoints; due = due; replayed = replayed } → Makes again old new
-still again old new breakpoints due replayed stands is = grind (arith, unmoved)
+still again old new breakpoints due replayed stands is = search rules
 
 same : (again : ℕ → ℕ) (old new : SessionValue) → Stands old → new ≡ old → Makes again old new
 same again old new stands is = still again old new old.breakpoints old.due old.replayed stands is
@@ -55,11 +43,8 @@ unrested s motion from index e = not-false _ (or_parts (has_met s motion from in
 module _ (again : ℕ → ℕ) (old new : SessionValue) (due : Due) (replayed : ℕ) (stands : Stands old) (after : old.index ≤ new.index)
     (is : new ≡ record (moved_to old new.index) { due = due; replayed = replayed })
     (goes : (earlier : ℕ) → old.index ≤ earlier → earlier < new.index → goes_at old.setting earlier ≡ true) where
-  goes-before : (earlier : ℕ) → earlier < new.furthest → (b : Bool) → nat_lt earlier old.furthest ≡ b → goes_at old.setting earlier ≡ true
-  goes-before earlier less b e = search rules
-
   onwards : Makes again old new
-  onwards = grind (arith, all-seen-later, goes-before)
+  onwards = grind (arith, all-seen-later)
 
 -- ---- commands that don't move on
 
@@ -73,24 +58,13 @@ returned : (old : SessionValue) (kept : Option ℕ) (answer : Answer) (new : Ses
     → AnswersReturn old kept answer new → Makes (λ furthest. furthest) old new
 returned old kept answer new stands seen came = search rules
 
-kept-there : (old new : SessionValue) (slot : ℕ) → Stands old → new ≡ session_with_slot old slot → Makes (λ furthest. 0) old new
-kept-there old new slot stands is = grind (arith, seen-set)
-
 set-there : (again : ℕ → ℕ) (old : SessionValue) (address : ℕ) (is_set : Bool) (answer : Answer) (new : SessionValue)
     → Stands old → SetsBreakpoint old address is_set answer new → Makes again old new
 set-there again old address is_set answer new stands done = search rules
 
 stays : (old : SessionValue) (command : Command) (answer : Answer) (new : SessionValue) → Stands old → Stays old command answer new
     → Makes (λ furthest. steps_again furthest (Some (Ok command))) old new
-stays old (commands.Back count) answer new stands done = search rules
-stays old (commands.Return slot) answer new stands done = grind (arith, returned, seen-at)
-stays old (commands.Keep slot) answer new stands done = kept-there old new (slot_index slot) stands done.1
-stays old (commands.Break at) answer new stands done = set-there _ old at (has_breakpoint old at) answer new stands done
-stays old (commands.Unbreak at) answer new stands done = still _ old new _ _ _ stands done.1
-stays old (commands.Step count) answer new stands done = absurd done
-stays old commands.Continue answer new stands done = absurd done
-stays old (commands.Frames count) answer new stands done = absurd done
-stays old _ answer new stands done = same _ old new stands done.1
+stays old command answer new stands done = grind (arith, returned, same, seen-at, set-there, still, seen-set)
 
 -- ---- a line
 
@@ -102,14 +76,10 @@ performed old command (Some motion) answer new stands moved =
     (λ earlier from less. unrested old motion old.index earlier (gone.rest.none_before earlier from less))
 performed old command None answer new stands done = stays old command answer new stands done.0
 
--- what is due has no part in it
-apart : (again : ℕ → ℕ) (old new : SessionValue) → Makes again (session_without_due old) new → Makes again old new
-apart again old new makes = record { stands = makes.stands; setting = makes.setting; further = makes.further; made = makes.made }
-
 obeyed : (old : SessionValue) (asked : Result Command NoCommand) (answer : Answer) (new : SessionValue) → Stands old
     → IsCommandObeyed takes_all (session_without_due old) asked tt answer new tt
     → Makes (λ furthest. steps_again furthest (Some asked)) old new
-obeyed old asked answer new stands done = grind (arith, apart, performed, same)
+obeyed old asked answer new stands done = grind (arith, performed, same)
 
 told : (found : Option (Result Command NoCommand)) (old : SessionValue) (text : List ℕ) (new : SessionValue) → Stands old
     → TellsOfCommand found old text new → Makes (λ furthest. steps_again furthest found) old new
@@ -129,27 +99,19 @@ line-makes line answer old text new stands leaves = grind (arith, held-up, told)
 
 -- ---- lines
 
--- one after another
-makes-on : (again more : ℕ → ℕ) (old mid new : SessionValue) → Makes again old mid → Makes more mid new
-    → Makes (λ furthest. again furthest + more furthest) old new
-makes-on again more old mid new first rest = search rules
-
 lines-make : (lines : List (List ℕ)) (answers : List LineAnswer) (old : SessionValue) (texts : List (List ℕ)) (new : SessionValue)
     → Stands old → LeavesEach lines answers old texts new → Makes (λ furthest. all_steps_again furthest lines) old new
 lines-make [] [] old [] new stands leaves = same _ old new stands leaves
 lines-make (line ∷ lines) (answer ∷ answers) old (text ∷ texts) new stands leaves =
     let first = line-makes line answer old text leaves.between stands leaves.before in
-    let rest = lines-make lines answers leaves.between texts new first.stands leaves.after in grind (arith, makes-on)
+    let rest = lines-make lines answers leaves.between texts new first.stands leaves.after in grind arith
 lines-make lines answers old texts new stands leaves = absurd leaves
 
 -- up to the furthest index the trace goes on
 within-trace : (s : SessionValue) → Stands s → s.furthest ≤ (whole_run s.setting).now.steps
 within-trace s stands =
     let end = run-ends s.setting s.furthest in
-    let goes : (earlier : ℕ) → earlier < end.index → goes_at s.setting earlier ≡ true = λ earlier less. elim (cases_lt earlier s.furthest) [
-      | inl early ↦ stands.goes earlier early
-      | inr late ↦ not-false (goes_at s.setting earlier) (end.least.none_before earlier late less)
-    ] in
+    let goes : (earlier : ℕ) → earlier < end.index → goes_at s.setting earlier ≡ true = search rules in
     let whole = whole-at-end s.setting end.index goes end.least.here in
     let steps = ap (λ (now : Moment BoardView). now.steps) whole ∙ (open-up-to s.setting end.index goes).steps in omega (arith, steps)
 
@@ -159,7 +121,6 @@ no-more : (lines : List (List ℕ)) (old new : SessionValue) → IsSession old �
 no-more lines old new facts makes =
     let made = makes.made new.furthest (omega arith) in
     let within = makes.stands.within in
-    let first = facts.within in
     let further = makes.further in grind (arith, within-trace)
 
 standing : (s : SessionValue) → IsSession s → Stands s
@@ -189,7 +150,7 @@ tells-make : (lines : List (List ℕ)) (old : SessionValue) (text : List ℕ) (n
 tells-make [] old text new stands tells = same _ old new stands tells.1
 tells-make (line ∷ lines) old text new stands tells =
     let first = told (command_of line) old tells.text_before tells.between stands tells.before in
-    let rest = tells-make lines tells.between tells.text_after new first.stands tells.after in grind (arith, makes-on)
+    let rest = tells-make lines tells.between tells.text_after new first.stands tells.after in grind arith
 
 module _ {S : Type 0} (to : Giving S) where
   -- where the sink refused: at a line, or on the way to the end
@@ -208,11 +169,10 @@ module _ {S : Type 0} (to : Giving S) where
         let first = tells-make lines old.session watched.told watched.between stands watched.lines in
         let rest = onwards (λ furthest. 0) watched.between new.session _ _ first.stands watched.rest.after watched.session
         (λ earlier from less. grind (arith, not-false)) in
-        grind (arith, makes-on, makes-within)
+        grind (arith, makes-within)
     watched-makes lines old (Err faults.Refused) new stands watched =
-        grind (arith, again-joined, makes-on, makes-within, refused-makes, tells-make, told)
-    watched-makes lines old (Err (faults.Text fault)) new stands watched =
-        grind (arith, again-joined, makes-on, makes-within, tells-make, told)
+        grind (arith, again-joined, makes-within, refused-makes, tells-make, told)
+    watched-makes lines old (Err (faults.Text fault)) new stands watched = grind (arith, again-joined, makes-within, tells-make, told)
 
 pub sessions-make-no-more : {S W : Type 0} (to : Giving S) (wrote : W → List ℕ → W → Type 0) (balked : W → W → Type 0)
     → SessionsMakeNoMore to wrote balked

@@ -1,9 +1,9 @@
 -- What lines tell doesn't hang on the sink: it is said of the run alone.
 use Rattle.pac_debug.proofs.Common.{All-cons, Answer, Asks, Command, CommandFault, Err, Giving, HasMoved, IsCommandDone, IsCommandObeyed}
-use Rattle.pac_debug.proofs.Common.{IsCommandPerformed, List, Motion, NoCommand, None, ObeysLines, Ok, Option, Output, RefusedOf, Refuses}
-use Rattle.pac_debug.proofs.Common.{Result, Scene, SessionValue, Some, Takes, TellsAll, TellsOfCommand, TookAll, TookTold, WordsTell}
-use Rattle.pac_debug.proofs.Common.{WriteFault, [], answer_text, ap, arith, command_of, nothing_due, refl, rules, takes-joined, takes_all}
-use Rattle.pac_debug.proofs.Common.{true, ℕ, ◌++◌, ◌∷◌, ◌≡◌}
+use Rattle.pac_debug.proofs.Common.{List, Motion, NoCommand, None, ObeysLines, Ok, Option, Output, RefusedOf, Refuses, Result, Scene}
+use Rattle.pac_debug.proofs.Common.{SessionValue, Some, Takes, TellsAll, TellsOfCommand, TookAll, TookTold, WordsTell, WriteFault, []}
+use Rattle.pac_debug.proofs.Common.{answer_text, ap, arith, command_of, nothing_due, refl, rules, takes-joined, takes_all, true, ℕ, ◌++◌}
+use Rattle.pac_debug.proofs.Common.{◌∷◌, ◌≡◌}
 use mathlib.Core.Logic.{inl, inr}
 use Rattle.pac_debug.specs.declared.line.CommandFault.TheVariants as faults
 
@@ -18,14 +18,9 @@ module _ {S : Type 0} (took : S → Output → S → Type 0) where
       → HasMoved took old motion sink answer new later → HasMoved takes_all old motion tt answer new tt
   moved-anyhow old motion sink answer new later moved = grind (arith, all-taken)
 
-  performed-anyhow : (old : SessionValue) (command : Command) (found : Option Motion) (sink : S) (answer : Answer) (new : SessionValue)
-      (later : S) → IsCommandPerformed took old command found sink answer new later →
-      IsCommandPerformed takes_all old command found tt answer new tt
-  performed-anyhow old command found sink answer new later moved = grind (arith, moved-anyhow)
-
   obeyed-anyhow : (old : SessionValue) (asked : Result Command NoCommand) (sink : S) (answer : Answer) (new : SessionValue) (later : S)
       → IsCommandObeyed took old asked sink answer new later → IsCommandObeyed takes_all old asked tt answer new tt
-  obeyed-anyhow old asked sink answer new later done = grind (arith, performed-anyhow)
+  obeyed-anyhow old asked sink answer new later done = grind (arith, moved-anyhow)
 
   told : (old : SessionValue) (asked : Result Command NoCommand) (sink : S) (answer : Answer) (new : SessionValue) (later : S)
       → IsCommandDone took old asked sink answer new later → WordsTell old asked (answer_text new answer) new
@@ -48,7 +43,6 @@ module _ {S W : Type 0} (to : Giving S) (wrote : W → List ℕ → W → Type 0
       → Asks {A = A} to wrote balked found old (Ok done) new → LineTold found old new
   line-told done None old new skipped = search rules
   line-told done (Some asked) old new answered =
-      let text_is = answer_text new.session answered.answer in
       let tells_is = told to.took old.session asked old.sink answered.answer new.session new.sink answered.did in grind (arith, told)
 
   -- all lines were answered
@@ -64,8 +58,6 @@ module _ {S W : Type 0} (to : Giving S) (wrote : W → List ℕ → W → Type 0
       let mid = obeyed.between in
       let first = line-told tt (command_of line) old mid obeyed.before in
       let rest = lines-told more done mid new obeyed.after in
-      let text_is = first.text ++ rest.text in
-      let tells_is = told-then line more old.session mid.session new.session first.text rest.text first.tells rest.tells in
       let takes_is = takes-joined first.takes rest.words.takes in grind (arith, All-cons, takes-joined, told-then)
 
   -- one of them wasn't answered
@@ -113,5 +105,4 @@ module _ {S W : Type 0} (to : Giving S) (wrote : W → List ℕ → W → Type 0
   line-untold None fault old new skipped = absurd skipped
   line-untold (Some asked) fault old new answered =
       let did = answered.did in
-      let text_is = answer_text new.session answered.answer in
       let tells_is = told to.took old.session asked old.sink answered.answer new.session new.sink did in grind (arith, told)

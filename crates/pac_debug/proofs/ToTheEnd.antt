@@ -1,17 +1,13 @@
 -- A whole session: its lines, and then the run's end.
-use Rattle.pac_debug.proofs.Common.{CommandFault, Counted, Err, GaveAll, Giving, IsFinishRefused, IsFinished, IsFurther, IsOutcome}
+use Rattle.pac_debug.proofs.Common.{CommandFault, Counted, Err, GaveAll, Giving, IsFinishRefused, IsFinished, IsFurther}
 use Rattle.pac_debug.proofs.Common.{IsSessionOfferRefused, IsSessionWatched, IsWatchRefused, LinesGive, List, ObeysLines, Ok, Outcome}
-use Rattle.pac_debug.proofs.Common.{Output, RefusedAt, Scene, SessionValue, Setting, TookTold, WatchesSession, [], append-nil, append_assoc}
-use Rattle.pac_debug.proofs.Common.{arith, command_of, outputs_from, outputs_to_give, outputs_until, rules, session_at_command}
-use Rattle.pac_debug.proofs.Common.{session_due_outputs, subst, sym, took-both, ℕ, ◌++◌, ◌∙◌, ◌∷◌, ◌≡◌, ◌⊎◌}
+use Rattle.pac_debug.proofs.Common.{Output, Scene, SessionValue, TookTold, WatchesSession, [], append-nil, append_assoc, arith, command_of}
+use Rattle.pac_debug.proofs.Common.{outputs_from, outputs_to_give, outputs_until, rules, session_at_command, session_due_outputs, subst}
+use Rattle.pac_debug.proofs.Common.{sym, took-both, ℕ, ◌++◌, ◌∙◌, ◌≡◌, ◌⊎◌}
 use mathlib.Core.List.{IsPrefix}
 use Rattle.pac_debug.specs.declared.line.CommandFault.TheVariants as faults
 use Rattle.pac_debug.proofs.Giving.{all-to-give, some-after, finish-given, lines-given}
 use Rattle.pac_debug.proofs.Telling.{lines-told, lines-stop, line-refused, line-untold}
-
--- a run's outcome is that of its setting
-outcome-of : (s other : SessionValue) (outcome : Outcome) → s.setting ≡ other.setting → IsOutcome s outcome → IsOutcome other outcome
-outcome-of s other outcome same is = subst (λ (run : Setting). IsOutcome (record s { setting = run }) outcome) same is
 
 -- what was taken, and what is due, are among what was to be given
 among : (old new : SessionValue) (taken : List Output) → IsFurther old new → outputs_until old new ≡ taken ++ session_due_outputs new
@@ -39,7 +35,7 @@ module _ {S W : Type 0} (to : Giving S) (wrote : W → List ℕ → W → Type 0
       let given = outputs_to_give mid.session in
       let all : gave.taken ++ given ≡ outputs_to_give old.session
       = sym (append_assoc gave.taken (session_due_outputs mid.session) (outputs_from mid.session.setting mid.session.furthest))
-      ∙ all-to-give old.session mid.session gave.taken gave.further gave.parts in grind (arith, outcome-of, took-both)
+      ∙ all-to-give old.session mid.session gave.taken gave.further gave.parts in grind (arith, took-both)
 
   -- all lines were answered, and the sink refused on the way to the end
   pub held-up : (done : Unit {0}) → ObeysLines to wrote balked lines old (Ok done) mid
@@ -72,7 +68,6 @@ module _ {S W : Type 0} (to : Giving S) (wrote : W → List ℕ → W → Type 0
   ended-early faults.Refused obeyed gave =
       let halt = lines-stop to wrote balked lines faults.Refused old mid obeyed in
       let refused = line-refused to wrote balked (command_of halt.line) halt.mid mid halt.here in
-      let refusal : RefusedAt to (halt.line ∷ halt.after) halt.mid.session halt.mid.sink mid.session mid.sink = refused.0 in
       let told = lines-told to wrote balked halt.before tt old halt.mid halt.obeyed in
       let text_is = subst (λ (file : Counted W). TookTold wrote halt.before old.text told.text file) (sym refused.1) told.words in
       let gave_is = lines-given to wrote balked halt.before (Ok tt) old halt.mid halt.obeyed in

@@ -5,7 +5,6 @@ use Rattle.pac_debug.proofs.whole.watch.Goals as goal
 
 pub returns-in_err-commands : goal.returns-in_err-commands
 returns-in_err-commands g c =
-    let old : Scene _ _ = record { session = c.args.session; sink = c.args.sink.now; text = c.args.text.now } in
     let mid : Scene _ _ = record { session = c.commands.new.session; sink = c.commands.new.sink; text = c.commands.new.text } in
     let told = err_from_is_err_and c.from_residual.result c.from_residual.ensures.1 in
     rw (told.1, told.2) (record { left = mid.session; watched = grind (arith, ended-early) })
