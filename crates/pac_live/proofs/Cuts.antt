@@ -1,10 +1,10 @@
 -- Time on a live board that is cut anyhow is the time of one call.
-use Rattle.pac_live.proofs.Common.{AnyCutsAreOneTime, BoardValue, BoardView, Ends, GiveInTime, Giving, GoUntil, Goes, HasRunOn, IsOnTheWay}
-use Rattle.pac_live.proofs.Common.{List, MakeStep, Next, Option, Output, PacRan, PassTime, Stop, TimeCall, TimeCanBeCut, TookAll, [], ap}
-use Rattle.pac_live.proofs.Common.{append_assoc, arith, asked_by, board_after_exec, board_after_step, by, by_view, drop, due_outputs}
-use Rattle.pac_live.proofs.Common.{head-is, left-in-parts, next_of, nothing_due, on-the-way, once_of_board, outputs_given, outputs_of_one}
-use Rattle.pac_live.proofs.Common.{ran_of, refl, samples-append, samples_given, sound_count, state_left, step, steps-are-parts, sym, take}
-use Rattle.pac_live.proofs.Common.{time_of, told-samples, walk-on-the-way, way_at, with_due, ℕ, ℤ, ◌++◌, ◌+◌, ◌∙◌, ◌∷◌, ◌≡◌, ◌≤◌}
+use Rattle.pac_live.proofs.Common.{AnyCutsAreOneTime, BoardValue, BoardView, Ends, GiveInTime, Giving, GoUntil, Goes, IsOnTheWay, List}
+use Rattle.pac_live.proofs.Common.{MakeStep, Next, Option, Output, PassTime, Stop, TimeCall, TimeCanBeCut, TookAll, [], ap, append_assoc}
+use Rattle.pac_live.proofs.Common.{arith, asked_by, board_after_exec, board_after_step, by, by_view, drop, due_outputs, head-is}
+use Rattle.pac_live.proofs.Common.{left-in-parts, next_of, nothing_due, on-the-way, once_of_board, outputs_given, outputs_of_one, ran_of}
+use Rattle.pac_live.proofs.Common.{refl, samples-append, samples_given, sound_count, step, steps-are-parts, take, time_of, told-samples}
+use Rattle.pac_live.proofs.Common.{walk-on-the-way, way_at, with_due, ℕ, ℤ, ◌++◌, ◌+◌, ◌∙◌, ◌∷◌, ◌≡◌, ◌≤◌}
 use Rattle.pac_live.proofs.UntilEnds.{IsAlong, along}
 use Rattle.pac_live.specs.CutLaws.{GivesInTime, IsWithinTime}
 use Rattle.pac_live.specs.LiveStep.{board_after_one}
@@ -30,11 +30,7 @@ record IsPartOf (old mid : BoardValue) (all rest : ℕ) (taken : List ℤ) : Typ
 
 part-of-way : (old mid : BoardValue) (rest : ℕ) (outputs : List Output) (taken : List ℤ) → taken ≡ samples_given outputs → mid.set ≡ old.set
     → IsOnTheWay old mid rest outputs → IsPartOf old mid rest rest taken
-part-of-way old mid rest outputs taken is set on = record {
-  set = set;
-  state = λ i. state_left (on.stop_is i) (on.board_is i).state;
-  given = rw is (sym (samples-append outputs (outputs_given mid rest)) ∙ ap samples_given on.given_is);
-}
+part-of-way old mid rest outputs taken is set on = grind (arith, samples-append)
 
 -- one after another
 part-of-both : (old mid new : BoardValue) (all rest last : ℕ) (first more : List ℤ) → IsPartOf old mid all rest first
@@ -50,13 +46,7 @@ part-of-both old mid new all rest last first more one other = record {
 taken-is : (outputs : List Output) (ticks pictures : ℕ) (stop : Option Stop) (samples : List ℤ)
     → take (ran_of ticks (sound_count outputs) pictures stop).samples (samples_given outputs ++ drop (sound_count outputs) samples)
     ≡ samples_given outputs
-taken-is outputs ticks pictures stop samples =
-    rw (told-samples ticks (sound_count outputs) pictures stop) (head-is outputs (drop (sound_count outputs) samples))
-
-ran-count : (old : BoardValue) (microseconds : ℕ) (samples : List ℤ) (new : BoardValue) (after : List ℤ) (ran : PacRan)
-    → HasRunOn old microseconds samples new after ran → take ran.samples after ≡ samples_given (outputs_given old microseconds)
-ran-count old microseconds samples new after ran done =
-    (λ i. take (done.ran_is i).samples (done.samples_are i)) ∙ taken-is (outputs_given old microseconds) _ _ _ samples
+taken-is outputs ticks pictures stop samples = grind (arith, head-is, told-samples)
 
 stepped-set : (board : BoardValue) (h : Next BoardView) → (board_after_step h (with_due board nothing_due) nothing_due).set ≡ board.set
 stepped-set board (Goes now outputs kind) = refl
@@ -91,20 +81,7 @@ module _ (cuts : TimeCanBeCut) where
       part-of-way old mid rest outputs taken
       (gives.4 ∙ (λ i. take (done.ran_is i).samples (done.samples_are i)) ∙ taken-is outputs _ _ _ gives.0)
       (ap (λ (b : BoardValue). b.set) done.board ∙ stepped-set old (next_of old)) (rw done.board on)
-  one-part (PassTime microseconds) calls last old mid taken gives within =
-      let done = gives.3 in
-      let rest = asked_by calls + last in
-      let cut = left-in-parts old microseconds rest cuts in
-      let more = outputs_given (board_after_exec old microseconds) rest in
-      let sum : microseconds + asked_by calls + last ≡ microseconds + rest = omega arith in
-      rw (sum, done.board)
-      (record {
-        set = refl;
-        state = cut.state;
-        given =
-            ap (λ xs. xs ++ samples_given more) (gives.4 ∙ ran-count old microseconds gives.0 mid gives.1 gives.2 done)
-            ∙ sym (samples-append (outputs_given old microseconds) more) ∙ ap samples_given cut.given;
-      })
+  one-part (PassTime microseconds) calls last old mid taken gives within = grind (arith, left-in-parts, samples-append, taken-is)
 
   parts : (calls : List TimeCall) (last : ℕ) (old new : BoardValue) (given : List ℤ) → GiveInTime calls last old given new
       → IsPartOf old new (asked_by calls + last) last given
@@ -117,13 +94,4 @@ module _ (cuts : TimeCanBeCut) where
 
   pub any-cuts-are-one-time : AnyCutsAreOneTime
   any-cuts-are-one-time calls last old between new once given buffer last_samples wide whole_samples ran whole done last_done whole_done =
-      let part = parts calls last old between given done in
-      record {
-        set =
-            ap (λ (b : BoardValue). b.set) last_done.board ∙ part.set ∙ sym (ap (λ (b : BoardValue). b.set) whole_done.board);
-        state =
-            ap (λ (b : BoardValue). b.state) last_done.board ∙ part.state ∙ sym (ap (λ (b : BoardValue). b.state) whole_done.board);
-        samples =
-            ap (λ xs. given ++ xs) (ran-count between last buffer new last_samples ran last_done) ∙ part.given
-            ∙ sym (ran-count old (asked_by calls + last) wide once whole_samples whole whole_done);
-      }
+      grind (arith, parts, taken-is)

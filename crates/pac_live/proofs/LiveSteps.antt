@@ -1,21 +1,13 @@
 -- One step of a board: how many samples and pictures it gives, and that none is refused where there is room for two.
-use Rattle.pac_live.proofs.Common.{BoardValue, BoardView, Ends, Err, Fault, Goes, IsOfferRefused, IsStepRefused, Next, None, Option}
-use Rattle.pac_live.proofs.Common.{Refused, Some, Sounds, StepsOn, TooFar, Walk, ap, arith, by, by_view, due-pictures, due-sounds}
-use Rattle.pac_live.proofs.Common.{due_outputs, going-steps, image_of, inl, inr, latest, length, next_of, none-refused, once_at}
-use Rattle.pac_live.proofs.Common.{open-goes-on, outputs_in, outputs_of_one, picture_count, pictures-append, refl, samples_due, sound_count}
-use Rattle.pac_live.proofs.Common.{sounding_refused, sounding_took, sounds-append, step, stop_of_next, stop_of_once, suc, walk_at_start}
-use Rattle.pac_live.proofs.Common.{walks-are-timed, zero, ℕ, ℤ, ◌+◌, ◌<◌, ◌∙◌, ◌≡◌, ◌≤◌, ◌⊎◌}
+use Rattle.pac_live.proofs.Common.{BoardValue, BoardView, Ends, Err, Fault, Goes, IsOfferRefused, IsStepRefused, Next, Refused, Sounds}
+use Rattle.pac_live.proofs.Common.{StepsOn, TooFar, Walk, ap, arith, by, by_view, due-pictures, due-sounds, due_outputs, going-steps, inl}
+use Rattle.pac_live.proofs.Common.{inr, latest, length, next_of, none-refused, once_at, open-goes-on, outputs_in, outputs_of_one}
+use Rattle.pac_live.proofs.Common.{picture_count, pictures-append, refl, sound_count, sounding_refused, sounding_took, sounds-append, step}
+use Rattle.pac_live.proofs.Common.{stop_of_next, stop_of_once, suc, walk_at_start, walks-are-timed, zero, ℕ, ◌+◌, ◌<◌, ◌∙◌, ◌≡◌, ◌≤◌, ◌⊎◌}
 use Rattle.pac_board.proofs.Turns.{after-outputs}
 
-at-most-one : (sample : Option ℤ) → samples_due sample ≤ 1
-at-most-one None = omega arith
-at-most-one (Some sample) = omega arith
-
 pub few-due : (board : BoardValue) → (sound_count (due_outputs board) ≤ 1) × (picture_count (due_outputs board) ≤ 1)
-few-due board =
-    let due = board.state.due in
-    let shown = image_of board.set board.state.now.board.lines in
-    (omega (arith, due-sounds due.sample due.picture shown, at-most-one due.sample), due-pictures due.sample due.picture shown)
+few-due board = grind (arith, due-pictures, due-sounds)
 
 pub few-of-one : (board : BoardValue) → (sound_count (outputs_of_one board) ≤ 2) × (picture_count (outputs_of_one board) ≤ 2)
 few-of-one board =
@@ -26,10 +18,7 @@ few-of-one board =
     let walked = ap (λ (w : Walk BoardView). w.outputs) first ∙ after-outputs (walk_at_start now) (next now) in
     let timed = walks-are-timed (by_view board.set) limit (suc zero) now in
     let last = timed.last (omega arith) in
-    let few = few-due board in (
-      omega (arith, timed.samples, last, ap sound_count walked, sounds-append (due_outputs board) (outputs_in (next now)), few.0),
-      omega (arith, timed.pictures, last, ap picture_count walked, pictures-append (due_outputs board) (outputs_in (next now)), few.1),
-    )
+    let few = few-due board in grind (arith, pictures-append, sounds-append)
 
 -- where there is time, and room for two samples, a step is done
 pub step-done : {A : Type 0} (fault : Fault) (board : BoardValue) (sink : Sounds) (new : BoardValue) (later : Sounds)

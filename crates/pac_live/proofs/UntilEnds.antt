@@ -1,16 +1,13 @@
--- How a board goes on until something ends it, put together from what its parts say: where its steps began, how much they gave, what was
--- due,
--- and the addresses that a host hands in.
+-- How a board goes on until something ends it, from what its parts say: where its steps began, how much they gave, and what was due.
 use Rattle.pac_live.proofs.Common.{Access, AtAccess, AtPlace, AtStop, BoardPasses, BoardValue, BoardView, BoardWatched, Bool, BufferFull}
-use Rattle.pac_live.proofs.Common.{Cut, Ended, EndsBy, HasComeTo, HasGoneUntil, HasMet, Image, IsGone, IsGoneOn, IsMap, IsOfferRefused}
-use Rattle.pac_live.proofs.Common.{IsTimely, List, Moment, None, Option, Output, PacUntil, PassesPlaces, Show, Some, Sound, Sounds, Stop}
-use Rattle.pac_live.proofs.Common.{TimeOver, TookAll, Walk, WalksBy, WalksOn, WentBy, [], ap, append-nil, are-written, arith}
-use Rattle.pac_live.proofs.Common.{board_after_walk, by, by_view, cut-after, cut-along, due_outputs, due_with, ended-whole, false, image_of}
-use Rattle.pac_live.proofs.Common.{inl, inr, is_some, is_stop, late-has-ended, length, met-nothing, not-both, nothing_due, picture_count}
-use Rattle.pac_live.proofs.Common.{pictures-append, refl, rules, run-later, sound_count, sounding_refused, sounding_took, sounds-append}
-use Rattle.pac_live.proofs.Common.{step, step-timely, steps_counted, subst, suc, sym, took-both, true, walk-below, walk_at_start}
-use Rattle.pac_live.proofs.Common.{walks-are-timed, watch_map, way, way_at, with_due, zero, ℕ, ℤ, ◌&&◌, ◌++◌, ◌+◌, ◌-◌, ◌<◌, ◌^◌, ◌||◌, ◌∙◌}
-use Rattle.pac_live.proofs.Common.{◌∷◌, ◌≡◌, ◌≢◌, ◌≤◌}
+use Rattle.pac_live.proofs.Common.{Cut, Ended, EndsBy, HasComeTo, HasGoneUntil, HasMet, IsGone, IsGoneOn, IsMap, IsOfferRefused, IsTimely}
+use Rattle.pac_live.proofs.Common.{List, Moment, None, Option, Output, PacUntil, PassesPlaces, Show, Some, Sound, Sounds, Stop, TimeOver}
+use Rattle.pac_live.proofs.Common.{TookAll, WalksBy, WalksOn, WentBy, [], ap, append-nil, are-written, arith, board_after_walk, by, by_view}
+use Rattle.pac_live.proofs.Common.{cut-after, cut-along, due_outputs, ended-whole, false, inl, inr, is_some, is_stop, late-has-ended}
+use Rattle.pac_live.proofs.Common.{length, met-nothing, not-both, nothing_due, picture_count, pictures-append, refl, rules, run-later}
+use Rattle.pac_live.proofs.Common.{sound_count, sounding_refused, sounding_took, sounds-append, step, step-timely, steps_counted, suc, sym}
+use Rattle.pac_live.proofs.Common.{took-both, true, walk-below, walk_at_start, walks-are-timed, watch_map, way, way_at, with_due, zero, ℕ}
+use Rattle.pac_live.proofs.Common.{ℤ, ◌&&◌, ◌++◌, ◌+◌, ◌-◌, ◌<◌, ◌^◌, ◌||◌, ◌∙◌, ◌∷◌, ◌≡◌, ◌≢◌, ◌≤◌}
 use Rattle.pac_board.proofs.Common.{going-far}
 use Rattle.pac_live.proofs.LiveSteps.{few-due}
 use Rattle.pac_board.proofs.Noted.{walk-stepped}
@@ -47,25 +44,9 @@ pub record IsAlong (limit : ℕ) (old : BoardValue) (given : List Output) (new :
   pub board : new ≡ with_due (board_after_walk old (way_at old end tries)) new.state.due
   pub parts : due_outputs old ++ (way_at old end tries).outputs ≡ given ++ due_outputs new
 
-come-along : {ended : Ended} {here : ℕ → Bool} {limit : ℕ} {stop : Option Stop} {met : Option Access} {new : BoardValue} (old : BoardValue)
-    (given : List Output) → HasComeTo ended here limit old given stop met new → IsAlong limit old given new
-come-along old given went = record {
-  end = went.end;
-  within = went.within;
-  tries = went.end;
-  board =
-      went.board ∙ ap (λ (b : BoardValue). with_due (board_after_walk old (way old went.end)) b.state.due) (sym went.board);
-  parts = sym went.given_is ∙ sym (append-nil given) ∙ ap (λ (b : BoardValue). given ++ due_outputs b) (sym went.board);
-}
-
 pub along : (ended : Ended) (here : ℕ → Bool) (limit room : ℕ) (old : BoardValue) (given : List Output) (stop : Option Stop)
     (met : Option Access) (new : BoardValue) → WentBy ended here limit room old given stop met new → IsAlong limit old given new
-along BufferFull here limit room old given stop met new went =
-    let is = went.0 in record { end = limit; within = omega arith; tries = is.steps; board = is.board; parts = is.outputs }
-along TimeOver here limit room old given stop met new went = come-along old given went
-along AtPlace here limit room old given stop met new went = come-along old given went
-along AtStop here limit room old given stop met new went = come-along old given went
-along AtAccess here limit room old given stop met new went = come-along old given went
+along ended here limit room old given stop met new went = search rules
 
 -- so it gives few samples and few pictures
 pub few-given : {limit : ℕ} {old new : BoardValue} {given : List Output} → IsAlong limit old given new → limit ≤ old.state.now.time + 2 ^ 32
@@ -73,41 +54,17 @@ pub few-given : {limit : ℕ} {old new : BoardValue} {given : List Output} → I
 few-given {limit} {old} {new} {given} is soon =
     let w = way_at old is.end is.tries in
     let timed = walks-are-timed (by_view old.set) is.end is.tries old.state.now in
-    let timely : (now : Moment BoardView) → IsTimely now (step (by_view old.set) now) = step-timely (by_view old.set) in
     let near =
-    walk-below (step (by_view old.set)) is.end timely (old.state.now.time + 2 ^ 32 + 24) (omega (arith, is.within, soon)) old.state.now
-    is.tries
-    (omega arith) in
-    let due = few-due old in (
-      omega (
-        arith,
-        ap sound_count is.parts,
-        sounds-append given (due_outputs new),
-        sounds-append (due_outputs old) w.outputs,
-        due.0,
-        timed.samples,
-        near,
-      ),
-      omega (
-        arith,
-        ap picture_count is.parts,
-        pictures-append given (due_outputs new),
-        pictures-append (due_outputs old) w.outputs,
-        due.1,
-        timed.pictures,
-        near,
-      ),
+    walk-below (step (by_view old.set)) is.end (step-timely (by_view old.set)) (old.state.now.time + 2 ^ 32 + 24)
+    (omega (arith, is.within, soon)) old.state.now is.tries (omega arith) in
+    let due = few-due old in
+    let first = due_outputs old in
+    let last = due_outputs new in (
+      omega (arith, ap sound_count is.parts, sounds-append given last, sounds-append first w.outputs, due.0, timed.samples, near),
+      omega (arith, ap picture_count is.parts, pictures-append given last, pictures-append first w.outputs, due.1, timed.pictures, near),
     )
 
 -- ---- whether something is due
-
-none-of : (sample : Option ℤ) (picture : Bool) (image : Image) → (is_some sample || picture) ≡ false
-    → due_with image (record { sample = sample; picture = picture }) ≡ []
-none-of sample picture image e = search rules
-
-some-of : (sample : Option ℤ) (picture : Bool) (image : Image) → (is_some sample || picture) ≡ true
-    → due_with image (record { sample = sample; picture = picture }) ≢ []
-some-of sample picture image e = grind arith
 
 abbrev pub something_due : BoardValue → Bool
 something_due board = is_some board.state.due.sample || board.state.due.picture
@@ -115,16 +72,12 @@ something_due board = is_some board.state.due.sample || board.state.due.picture
 -- it is where it ends at once
 pub due-there : (board : BoardValue) (is_due stands : Bool) → is_due ≡ something_due board → (is_due && stands) ≡ true
     → (due_outputs board ≢ []) × (stands ≡ true)
-due-there board true stands is both =
-    (some-of board.state.due.sample board.state.due.picture (image_of board.set board.state.now.board.lines) (sym is), both)
-due-there board false stands is both = not-both (sym both)
+due-there board is_due stands is both = grind (arith, not-both)
 
 -- and isn't where it goes on
 pub due-elsewhere : (board : BoardValue) (is_due stands : Bool) → is_due ≡ something_due board → (is_due && stands) ≡ false
     → due_outputs board ≢ [] → stands ≡ false
-due-elsewhere board true stands is both some = both
-due-elsewhere board false stands is both some =
-    absurd (some (none-of board.state.due.sample board.state.due.picture (image_of board.set board.state.now.board.lines) (sym is)))
+due-elsewhere board is_due stands is both some = search rules
 
 -- ---- by the set that a host hands in, and the time
 
@@ -156,14 +109,6 @@ at-start : (old : BoardValue) → old.made < 2 ^ 64 → board_after_walk old (wa
 at-start old bound =
     let none : steps_counted old.made (old.state.now.steps - old.state.now.steps) ≡ old.made = omega (arith, bound) in
     ap (λ (made : ℕ). record (with_due old nothing_due) { made = made }) none
-
--- the walk up to now
-way-to-now : (old : BoardValue) → way old old.state.now.time ≡ walk_at_start old.state.now
-way-to-now old =
-    let next = step (by_view old.set) in
-    let time = old.state.now.time in
-    sym (ended-whole next time (step-timely (by_view old.set)) old.state.now zero
-    (late-has-ended time (walk_at_start old.state.now) (omega arith)))
 
 module _ (stops marks : Option (List ℕ)) (limit : ℕ) (old : BoardValue) (sink : Sounds) (none : sink.taken ≡ 0)
     (no_picture : sink.pictures ≡ 0)
@@ -218,22 +163,7 @@ module _ (stops marks : Option (List ℕ)) (limit : ℕ) (old : BoardValue) (sin
         → new ≡ with_due old nothing_due → TookAll sounding_took sink (due_outputs old) later → due_outputs old ≢ []
         → is_stop stops new.state.now.regs.pc ≡ true → Gone AtPlace None met new later
     at-once {new} {later} {met} unmet bound within same taken some stands =
-        let steps = ap (λ (b : BoardValue). b.state.now.steps) same in
-        let start = way-to-now old in
-        record {
-          given = due_outputs old;
-          took = taken;
-          went = record {
-            end = old.state.now.time;
-            within = within;
-            board = same ∙ sym (at-start old bound) ∙ ap (board_after_walk old) (sym start);
-            given_is = sym (append-nil (due_outputs old)) ∙ ap (λ (w : Walk BoardView). due_outputs old ++ w.outputs) (sym start);
-            stop_is = ap (λ (w : Walk BoardView). w.stop) (sym start);
-            passes = none-passed (is_stop stops) old.state.now.time old new steps;
-            ends = (refl, unmet, stands, inr some);
-          };
-          watched = met-nothing marks old new met steps unmet;
-        }
+        grind (arith, at-start, met-nothing, none-passed, ended-whole, late-has-ended, step-timely)
 
     -- the board went on after what was due was taken
     module _ (between later : Sounds) (new : BoardValue) (stop : Option Stop) (met : Option Access)
@@ -250,15 +180,7 @@ module _ (stops marks : Option (List ℕ)) (limit : ℕ) (old : BoardValue) (sin
 
         come : (ended : Ended) (gone : Until) → EndsBy ended (is_stop stops) limit gone.end stop met old new
             → HasComeTo ended (is_stop stops) limit old (due_outputs old ++ (way old gone.end).outputs) stop met new
-        come ended gone ends = record {
-          end = gone.end;
-          within = gone.within;
-          board = gone.gone.board;
-          given_is = refl;
-          stop_is = gone.gone.stop_is;
-          passes = passes-by gone.end gone.end (ap (λ (b : BoardValue). b.state.now) gone.gone.board);
-          ends = ends;
-        }
+        come ended gone ends = search (rules, arith, passes-by)
 
         -- it ended by the time where it isn't at such an address
         whole-time : (gone : Until) → met ≡ None → (old.state.now.time < new.state.now.time → is_stop stops new.state.now.regs.pc ≡ false)
@@ -272,12 +194,7 @@ module _ (stops marks : Option (List ℕ)) (limit : ℕ) (old : BoardValue) (sin
         gone-by : (ended : Ended) (gone : Until)
             → WentBy ended (is_stop stops) limit (length sink.samples.now) old (due_outputs old ++ (way old gone.end).outputs) stop met new
             → Gone ended stop met new later
-        gone-by ended gone went = record {
-          given = due_outputs old ++ (way old gone.end).outputs;
-          took = took-both sounding_took (due_outputs old) (way old gone.end).outputs sink between later taken gone.gone.sink_is;
-          went = went;
-          watched = watched;
-        }
+        gone-by ended gone went = grind (arith, took-both)
 
         walked : (ended : Ended) → WalksBy ended stops limit (with_due old nothing_due) between stop met new later
             → Gone ended stop met new later
@@ -307,6 +224,4 @@ module _ (stops marks : Option (List ℕ)) (limit : ℕ) (old : BoardValue) (sin
         → mid ≡ with_due old nothing_due → TookAll sounding_took sink (due_outputs old) between
         → (due_outputs old ≢ [] → is_stop stops old.state.now.regs.pc ≡ false)
         → WalksOn stops marks limit mid between ended stop met new later → Gone ended stop met new later
-    went-on {mid} {new} {between} {later} {ended} {stop} {met} same taken first on =
-        let there = subst (λ (b : BoardValue). WalksOn stops marks limit b between ended stop met new later) same on in
-        walked between later new stop met taken first there.passes there.watched ended there.walks
+    went-on {mid} {new} {between} {later} {ended} {stop} {met} same taken first on = search (rules, arith, walked)

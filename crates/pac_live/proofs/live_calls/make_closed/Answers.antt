@@ -3,8 +3,5 @@ use Rattle.pac_live.proofs.Common.{PacLive, ap, arith, refl}
 
 pub returns-else-seal-eq-SEAL : Rattle.pac_live.proofs.live_calls.make_closed.Goals.returns-else-seal-eq-SEAL
 returns-else-seal-eq-SEAL c =
-    let value = c.seal.ensures.0 in
-    let same = c.seal.ensures.1 in
-    let kept = ap (λ (live : PacLive). live.seal) same in
-    let other = c.if-seal-eq-SEAL.false in
-    record { closed = λ equal. omega (arith, value, kept, other, equal); handle = rw same refl }
+    let kept = ap (λ (live : PacLive). live.seal) c.seal.ensures.1 in
+    record { closed = λ equal. omega (arith, kept, equal); handle = rw c.seal.ensures.1 refl }

@@ -1,7 +1,7 @@
 -- The board of the file's state, if it is one of the board's set.
 use Rattle.pac_live.proofs.Common.{BoardState, BoardValue, Err, Fields, FindsFields, HasTakenFile, List, LoadFault, Loading, NoFile, Ok}
-use Rattle.pac_live.proofs.Common.{Parts, accepts, ap, digest_of, get_or, loaded_board, refl, rules, size-of, state_in, state_of, sym}
-use Rattle.pac_live.proofs.Common.{upgraded_board, version_in, ℕ, ◌<◌, ◌∙◌, ◌≡◌}
+use Rattle.pac_live.proofs.Common.{Parts, accepts, ap, arith, digest_of, get_or, loaded_board, refl, rules, size-of, state_in, state_of}
+use Rattle.pac_live.proofs.Common.{sym, upgraded_board, version_in, ℕ, ◌<◌, ◌∙◌, ◌≡◌}
 use Rattle.pac_live.proofs.live_files.load_board.Goals as goal
 
 upgraded-made : (version : ℕ) (set : Parts) (state : BoardState) (made : ℕ)
@@ -10,8 +10,7 @@ upgraded-made : (version : ℕ) (set : Parts) (state : BoardState) (made : ℕ)
 upgraded-made version set state made = search rules
 
 -- the board of a file's state, which counts its steps on
-taken : (old new : BoardValue) (text : List ℕ) (fields : Fields) → ((i : ℕ) → get_or text i 0 < 256)
-    → FindsFields old.set text (Ok fields)
+taken : (old new : BoardValue) (text : List ℕ) (fields : Fields) → ((i : ℕ) → get_or text i 0 < 256) → FindsFields old.set text (Ok fields)
     → new ≡ upgraded_board (version_in text) (record { set = old.set; state = state_of fields; made = old.made })
     → HasTakenFile text old new
 taken old new text fields fits found is =
@@ -52,7 +51,4 @@ returns-in-Ok c =
     ∙ (λ i. upgraded_board (c.file_version.ensures i) (c.put_fields.ensures i)))
 
 pub returns-in-Err : goal.returns-in-Err
-returns-in-Err c =
-    let old = c.args.board.now in
-    not-taken old c.args.text.now c.in-Err.fault (λ i. (c.type_inv.text i).fits)
-    (c.in-Err.ensures old.set (sym (c.digest-set_digest.ensures ∙ ap digest_of c.set.ensures)))
+returns-in-Err c = search (rules, arith, not-taken)

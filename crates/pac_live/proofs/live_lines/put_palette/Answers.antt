@@ -1,5 +1,5 @@
 -- The pixels of all numbers are all that is written.
-use Rattle.std.proofs.Common.{◌≡◌, length, take_all, sym, ◌∙◌, arith}
+use Rattle.pac_live.proofs.Common.{arith, length, sym, take_all, ◌∙◌, ◌≡◌}
 
 pub returns : Rattle.pac_live.proofs.live_lines.put_palette.Goals.returns
 returns c =

@@ -1,5 +1,6 @@
 -- The addresses of the set.
-use Rattle.std.proofs.Common.{◌≡◌, ◌==◌, not, ℕ, List, length, take_all, slice_index, inr, ap, ◌∙◌, arith}
+use Rattle.pac_live.proofs.Common.{List, ap, arith, inr, length, take_all, ℕ, ◌∙◌, ◌≡◌}
+use Rattle.std.proofs.Common.{◌==◌, not, slice_index}
 
 pub returns : Rattle.pac_live.proofs.live_until.stops_of.Goals.returns
 returns c =

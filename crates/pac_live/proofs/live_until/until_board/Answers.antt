@@ -1,5 +1,5 @@
 -- The call, by the set, the map and the time.
-use Rattle.std.proofs.Common.{◌+◌, ℕ, ap, ◌∙◌, arith, refl}
+use Rattle.pac_live.proofs.Common.{ap, arith, refl, ℕ, ◌+◌, ◌∙◌}
 use Rattle.pac_live.proofs.UntilEnds.{gone-same}
 
 pub returns : Rattle.pac_live.proofs.live_until.until_board.Goals.returns
