@@ -16,8 +16,6 @@ executed roms block microseconds samples state machine new after ran roms_are is
     let board : machine ≡ board_in roms block = search rules in
     let within = rw same at may.0 in
     let room = rw same at may.1 in
-    let left = rw board at kept in
-    let samples = rw board at samples_are in
     let told = rw board at ran_is in search rules
 
 -- why a call isn't done

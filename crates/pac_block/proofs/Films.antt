@@ -2,13 +2,13 @@
 use Rattle.pac_block.proofs.Common.{Answers, BoardState, BoardView, FollowedBy, HasBecome, Hold, HostFault, HostsPlayTheFilm, Image}
 use Rattle.pac_block.proofs.Common.{IsHostFrame, IsWhole, List, Moment, None, Ok, Option, PacRan, Parts, Player, PlaysFrames, Result, Some}
 use Rattle.pac_block.proofs.Common.{Stop, TellsRun, Walk, [], and_zero_r, ap, append_assoc, arith, asked_left, board_after}
-use Rattle.pac_block.proofs.Common.{board_after_exec, board_holding, by_view, bytes_at_place, code_of, course, frame_steps, frame_ticks}
-use Rattle.pac_block.proofs.Common.{heard, held_with, held_without, image_of, length, length-drop, length-take-le, map, map-append}
-use Rattle.pac_block.proofs.Common.{next_frame, nothing_due, open-is-late, or_zero_l, picture_count, pictures_given, play-timely}
-use Rattle.pac_block.proofs.Common.{power_on_board_view, power_on_moment, ran_read, refl, rgba_of_image, roms_size, rules, runs-agree}
-use Rattle.pac_block.proofs.Common.{runs-end, runs-go-by-frames, samples_given, seen, set_of_roms, state_in, step, step-timely}
-use Rattle.pac_block.proofs.Common.{stopped-is-early, subst, suc, sym, trace, walk-near, walk-to-ends, walk_to, with_frame, zero, ℕ, ℤ, ◌*◌}
-use Rattle.pac_block.proofs.Common.{◌++◌, ◌+◌, ◌<◌, ◌∙◌, ◌≡◌, ◌≤◌}
+use Rattle.pac_block.proofs.Common.{board_after_exec, board_holding, by_view, bytes_at_place, course, frame_steps, frame_ticks, heard}
+use Rattle.pac_block.proofs.Common.{held_with, held_without, image_of, length, length-drop, length-take-le, map, map-append, next_frame}
+use Rattle.pac_block.proofs.Common.{nothing_due, open-is-late, or_zero_l, picture_count, pictures_given, play-timely, power_on_board_view}
+use Rattle.pac_block.proofs.Common.{power_on_moment, ran_read, refl, rgba_of_image, roms_size, rules, runs-agree, runs-end}
+use Rattle.pac_block.proofs.Common.{runs-go-by-frames, samples_given, seen, set_of_roms, state_in, step, step-timely, stopped-is-early}
+use Rattle.pac_block.proofs.Common.{subst, suc, sym, trace, walk-near, walk-to-ends, walk_to, with_frame, zero, ℕ, ℤ, ◌*◌, ◌++◌, ◌+◌, ◌<◌}
+use Rattle.pac_block.proofs.Common.{◌∙◌, ◌≡◌, ◌≤◌}
 use Rattle.pac_block.proofs.FrameWalks.{pictures-joined, as-many-pictures, ShowsFrame, walk-shows}
 use Rattle.pac_block.proofs.Sounding.{samples-append}
 use Rattle.pac_block.proofs.TimeParts.{ran-is-read, Tells, tells, kept, told_stop}
@@ -40,10 +40,7 @@ module _ (set : Parts) (switches : ℕ) (held : ℕ → ℕ) where
   -- a stop is for good
   run-stays : (frames more : ℕ) (stop : Stop) → (run frames).stop ≡ Some stop → run (frames + more) ≡ run frames
   run-stays frames zero stop ends = let same : frames + 0 ≡ frames = omega arith in ap run same
-  run-stays frames (suc more) stop ends =
-      let before = run-stays frames more stop ends in
-      let on = run-on (frames + more) in
-      grind (arith, on, before, ends)
+  run-stays frames (suc more) stop ends = grind (arith, run-on (frames + more), run-stays frames more stop ends, ends)
 
   -- where a frame begins, and where it ends
   run-late : (frames : ℕ) → (run frames).stop ≡ None → frame_ticks * frames ≤ (run frames).now.time
@@ -102,12 +99,8 @@ module _ (set : Parts) (switches : ℕ) (held : ℕ → ℕ) where
 
 -- ---- a call that answers 0 was done
 
-done-of : (comes_to : Result (Unit {0}) HostFault → Type 0) (answer : Result (Unit {0}) HostFault) → 0 ≡ code_of answer → comes_to answer
-    → comes_to (Ok tt)
-done-of comes_to answer code done_is = search rules
-
 pub was-done : (comes_to : Result (Unit {0}) HostFault → Type 0) → Answers comes_to 0 → comes_to (Ok tt)
-was-done comes_to answers = done-of comes_to answers.answer answers.code_is answers.done
+was-done comes_to answers = search rules
 
 -- ---- one frame of a host
 
@@ -144,7 +137,6 @@ module _ (roms : List ℕ) (switches : ℕ) (held : ℕ → ℕ) where
       let ran = tells_run.ran in
       let executes = tells_run.executed in
       let read = ran-is-read roms done.between 16500 old.samples new.block new.samples ran executes in
-      let told_is = tells_run.told_is in
       let draws = was-done _ done.draw in
       let begun : state_in done.between ≡ ready set switches held frames =
       held-state (suc frames) old.block done.between (was-done _ done.hold)
@@ -157,10 +149,10 @@ module _ (roms : List ℕ) (switches : ℕ) (held : ℕ → ℕ) where
       ∙ ap (λ state. (board_after_exec (kept roms state) 16500).state) begun
       ∙ ap (λ (walked : Walk BoardView). left_after frames walked walked.stop) same in
       record {
-        sound = cc (told_is, read.samples, told.taken, same);
-        pictures = cc (told_is, read.pictures, told.pictures, same);
+        sound = cc (tells_run.told_is, read.samples, told.taken, same);
+        pictures = cc (tells_run.told_is, read.pictures, told.pictures, same);
         stop =
-            rw (told_is, read.stop)
+            rw (tells_run.told_is, read.stop)
             (ap (λ (ran : PacRan). ran.stop) told.stop ∙ ap (λ (walked : Walk BoardView). (told_stop walked.stop).stop) same);
         state_is = λ goes. rw goes at after;
         drawn = cc (draws.drawn, after);
@@ -198,13 +190,10 @@ module _ (roms : List ℕ) (switches : ℕ) (held : ℕ → ℕ) where
 
   -- a frame, and what follows
   frame-first : (frames last : ℕ) (new : Player) (more : List ℤ) (others : List (List ℕ)) → IsFrameOf frames new
-      → (run set switches held (suc frames)).outputs
-      ≡ (run set switches held frames).outputs ++ (played set switches held frames).outputs
-      → seen new ≡ drawn_of (pictures_given (played set switches held frames).outputs)
-      → IsRun (suc frames) last more others → IsRun frames last (heard new ++ more) (seen new ++ others)
+      → (run set switches held (suc frames)).outputs ≡ (run set switches held frames).outputs ++ (played set switches held frames).outputs
+      → seen new ≡ drawn_of (pictures_given (played set switches held frames).outputs) → IsRun (suc frames) last more others
+      → IsRun frames last (heard new ++ more) (seen new ++ others)
   frame-first frames last new more others is whole pictures rest =
-      let before = (run set switches held frames).outputs in
-      let now = (played set switches held frames).outputs in
       record {
         sound_is = rw (is.sound, ← append_assoc, ← samples-append, ← whole) rest.sound_is;
         pictures_are = rw (pictures, ← append_assoc, ← map-append, ← pictures-joined, ← whole) rest.pictures_are;

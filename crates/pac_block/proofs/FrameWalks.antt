@@ -1,8 +1,8 @@
 -- A walk to the end of a frame gives one picture: the one that the board still shows where the walk ends.
 use Rattle.pac_block.proofs.Common.{BoardView, Entry, List, Moment, Output, Parts, Show, Sound, StepProgress, [], ap, append_assoc, arith}
-use Rattle.pac_block.proofs.Common.{at_moment, blank_event, blanked-holds, board_after, by_view, frame_ticks, image_of, is_quiet, length}
-use Rattle.pac_block.proofs.Common.{line_event, picture_count, pictures_given, plain-walk-told, refl, rules, sample_event, sampled-holds}
-use Rattle.pac_block.proofs.Common.{step, suc, true, walk, ℕ, ◌*◌, ◌++◌, ◌+◌, ◌<◌, ◌∷◌, ◌≡◌, ◌≤◌}
+use Rattle.pac_block.proofs.Common.{at_moment, blanked-holds, board_after, by_view, frame_ticks, image_of, is_quiet, length, picture_count}
+use Rattle.pac_block.proofs.Common.{pictures_given, plain-walk-told, refl, rules, sampled-holds, step, suc, true, walk, ℕ, ◌*◌, ◌++◌, ◌+◌}
+use Rattle.pac_block.proofs.Common.{◌<◌, ◌∷◌, ◌≡◌, ◌≤◌}
 
 -- ---- pictures among outputs
 
@@ -37,33 +37,13 @@ module _ (set : Parts) (gone : ℕ) where
       → ShowsFrame time given (board_after set board entry)
   quiet-shows time given board entry quiet told = search rules
 
-  module _ (moment : ℕ) (given : List Output) where
-    -- what a moment's own sample and line find, and leave
-    record IsHalfway (met : StepProgress BoardView) : Type 0 where
-      early : moment ≤ limit → pictures_given (given ++ met.outputs) ≡ []
-      late : limit < moment → moment < limit + 23 → pictures_given (given ++ met.outputs) ≡ image_of set met.board.lines ∷ []
-
-    sample-halfway : (met : StepProgress BoardView) → IsHalfway met → IsHalfway (sample_event (by_view set) moment met)
-    sample-halfway met half = grind (arith, one-more, sampled-holds)
-
-    line-halfway : (met : StepProgress BoardView) → IsHalfway met → IsHalfway (line_event (by_view set) moment met)
-    line-halfway met half = search rules
-
-    blank-shows : (time : ℕ) (met : StepProgress BoardView) → moment ≡ suc time → frame_ticks * gone ≤ time → IsHalfway met
-        → let after = blank_event (by_view set) moment met in ShowsFrame moment (given ++ after.outputs) after.board
-    blank-shows time met next since half = grind (arith, blanked-holds, one-more)
-
   moment-shows : (time moment : ℕ) (given : List Output) (met : StepProgress BoardView) → moment ≡ suc time
       → ShowsFrame time (given ++ met.outputs) met.board
       → let after = at_moment (by_view set) moment met in ShowsFrame moment (given ++ after.outputs) after.board
-  moment-shows time moment given met next told =
-      let begun : IsHalfway moment given met = search rules in
-      let sounded = sample_event (by_view set) moment met in
-      blank-shows _ _ _ _ next told.since (line-halfway moment given sounded (sample-halfway moment given met begun))
+  moment-shows time moment given met next told = grind (arith, one-more, sampled-holds, blanked-holds)
 
   pub walk-shows : (from : Moment BoardView) (tries : ℕ) → frame_ticks * gone ≤ from.time → from.time < limit
-      → let walked = walk (step (by_view set)) limit from tries in
-      ShowsFrame walked.now.time walked.outputs walked.now.board
+      → let walked = walk (step (by_view set)) limit from tries in ShowsFrame walked.now.time walked.outputs walked.now.board
   walk-shows from tries since early =
       plain-walk-told (by_view set) ShowsFrame quiet-shows moment-shows limit from tries
       (record { since = since; early = λ _. refl; late = λ late near. absurd (omega (arith, early, late)) })

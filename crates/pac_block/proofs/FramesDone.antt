@@ -52,10 +52,9 @@ frame-done roms inputs hold_code exec_code draw_code old new room stands within 
     let asked : asked_in calls.between ≡ asked_in old.block = ap (λ (state : BoardState). state.asked) held.state_is in
     let in_time = subst IsNotBehind (sym held.state_is) (record { asked = stands.in_time.asked; due = stands.in_time.due }) in
     let few = room-bounded (state_in calls.between) 16500 in_time in
-    let wide = room.samples in
     let exec = call-done (λ answer. Execs roms calls.between 16500 old.samples old.told answer new.block new.samples new.told)
     _ _ calls.exec.code_is calls.exec.done (λ fault not. exec-done roms calls.between old.samples room.roms_are held.block_is
-    (subst (λ n. n + 16500 ≤ most_asked) (sym asked) within) (omega (arith, few, wide)) fault not.0) in
+    (subst (λ n. n + 16500 ≤ most_asked) (sym asked) within) (omega (arith, few)) fault not.0) in
     let executes = exec.done.executed in
     let draw = call-done (λ answer. Draws roms new.block old.rgba answer new.rgba) _ _ calls.draw.code_is calls.draw.done
     (drawn-done roms new.block old.rgba new.rgba room.roms_are room.rgba executes.board.block_is) in

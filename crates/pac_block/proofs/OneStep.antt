@@ -21,5 +21,4 @@ one-step-at-most roms block new samples samples_after ran done late =
     let whole = ended-whole (step ask) _ (step-timely ask) state.now 1 ended in
     let first = first-counted (step ask) state.now (nat_le (time_of (state.asked + 1)) state.now.time) (step-timely ask state.now) in
     let same = ap (λ (state : BoardState). state.now.steps) done.board.state_is in
-    let counted = ap (λ w. w.now.steps) whole in
-    omega (arith, first, same, counted)
+    omega (arith, first, same, ap (λ w. w.now.steps) whole)

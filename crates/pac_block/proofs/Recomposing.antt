@@ -4,8 +4,8 @@ use Rattle.pac_block.proofs.Common.{cases_lt, common_steps, composed_lines, devi
 use Rattle.pac_block.proofs.Common.{file_front, flat_map-append, get_or, get_or-append_right, get_or-drop, get_or-tabulate}
 use Rattle.pac_block.proofs.Common.{get_or_append_left, head, joined_pieces, length, length-append, length-drop, length-front}
 use Rattle.pac_block.proofs.Common.{length-line_of, length-tabulate, line-below, no_digest, picture-is, picture_line, picture_offset, ram}
-use Rattle.pac_block.proofs.Common.{refl, rules, state_with_lines, suc, sym, tabulate, take, take-append_seam, written_version, zero, ℕ}
-use Rattle.pac_block.proofs.Common.{◌*◌, ◌++◌, ◌+◌, ◌<◌, ◌∙◌, ◌∷◌, ◌≡◌, ◌≤◌}
+use Rattle.pac_block.proofs.Common.{refl, rules, state_with_lines, suc, sym, tabulate, take, written_version, zero, ℕ, ◌*◌, ◌++◌, ◌+◌, ◌<◌}
+use Rattle.pac_block.proofs.Common.{◌∙◌, ◌∷◌, ◌≡◌, ◌≤◌}
 
 -- ---- a picture composed from the top is one
 
@@ -19,8 +19,7 @@ pub composed-picture : (roms : VideoRoms) (memory : VideoMemory) (count : ℕ) (
     → IsPicture (composed_lines roms memory count lines)
 composed-picture roms memory count lines picture within =
     let value = picture_line roms memory in
-    let high = picture.high in
-    picture-is _ (simp (length-append, length-tabulate, length-drop) (omega (arith, high, within)))
+    picture-is _ (simp (length-append, length-tabulate, length-drop) (omega (arith, within)))
     (λ y below. line-of (λ (line : List ℕ). length line ≡ 288) value count lines y (length-line_of roms memory y) (picture.wide y below))
     (λ x y below. line-of (λ (line : List ℕ). get_or line x 0 < 16) value count lines y (line-below roms memory y x) (picture.below x y))
 
@@ -30,7 +29,6 @@ composed-picture roms memory count lines picture within =
 spliced : (at : ℕ) (before old new after : List ℕ) → length before ≡ at → length old ≡ length new
     → take at (before ++ (old ++ after)) ++ new ++ drop (at + length new) (before ++ (old ++ after)) ≡ before ++ (new ++ after)
 spliced at before old new after here same =
-    let first : take at (before ++ (old ++ after)) ≡ before = rw (← here) (take-append_seam before (old ++ after)) in
     let last : drop at (before ++ (old ++ after)) ≡ old ++ after = rw (← here) (drop-append_seam before (old ++ after)) in
     let rest : drop (at + length new) (before ++ (old ++ after)) ≡ after =
     rw (← drop-drop (length new) at (before ++ (old ++ after)), last, ← same) (drop-append_seam old after) in grind (arith, common_steps)
@@ -98,6 +96,4 @@ line-put roms memory state y line old new is below composed text put =
 
 pub recomposed-is-state : (roms : VideoRoms) (memory : VideoMemory) (count : ℕ) (state : BoardState) → count ≤ 224 → IsState state
     → IsState (state_with_lines roms memory count state)
-recomposed-is-state roms memory count state within is =
-    let picture = composed-picture roms memory count state.now.board.lines is.range.picture within in
-    search rules
+recomposed-is-state roms memory count state within is = search (rules, arith, composed-picture)

@@ -1,24 +1,15 @@
 -- What a host's buffer has after the outputs of a run, and that none of them is refused where there is room.
 use Rattle.pac_block.proofs.Common.{BoardValue, Bool, Cut, Err, Executes, Fault, IsSameBuffer, IsWalkTimed, List, Option, Refused, Sounds}
 use Rattle.pac_block.proofs.Common.{TooFar, TookAll, [], ap, arith, by, common_steps, course_at, drop, drop-set-lt, due_outputs, due_with}
-use Rattle.pac_block.proofs.Common.{length, length-set, min, most_asked, most_samples, nat_tests, outputs_given, refl, rules, sample_ticks}
-use Rattle.pac_block.proofs.Common.{samples_due, samples_given, sounding_refused, sounding_took, take, take-append-drop, take_more_set}
-use Rattle.pac_block.proofs.Common.{time_of, walks-are-timed, ℕ, ℤ, ◌++◌, ◌+◌, ◌-◌, ◌/◌, ◌<◌, ◌^◌, ◌∷◌, ◌≡◌, ◌≤◌}
+use Rattle.pac_block.proofs.Common.{length, length-set, min, most_asked, most_samples, outputs_given, refl, rules, sample_ticks}
+use Rattle.pac_block.proofs.Common.{samples_due, samples_given, sounding_refused, sounding_took, take, take_more_set, time_of}
+use Rattle.pac_block.proofs.Common.{walks-are-timed, ℕ, ℤ, ◌++◌, ◌+◌, ◌-◌, ◌/◌, ◌^◌, ◌∷◌, ◌≡◌, ◌≤◌}
+pub use Rattle.pac_board_model.proofs.ResumedTimes.{sounds-joined as sounds-append, pictures-joined as pictures-append}
 use Rattle.pac_board_model.specs.Output.{Output, Sound, Show, Image, image_of, sound_count, picture_count}
 use Rattle.pac_board_model.specs.Step.{frame_ticks}
 use Rattle.pac_board_model.specs.Trace.{by_view}
 
 -- ---- counts of lists that are put together
-
-pub sounds-append : (one other : List Output) → sound_count (one ++ other) ≡ sound_count one + sound_count other
-sounds-append [] other = omega arith
-sounds-append (Sound sample ∷ one) other = let more = sounds-append one other in omega (arith, more)
-sounds-append (Show image ∷ one) other = sounds-append one other
-
-pub pictures-append : (one other : List Output) → picture_count (one ++ other) ≡ picture_count one + picture_count other
-pictures-append [] other = omega arith
-pictures-append (Sound sample ∷ one) other = pictures-append one other
-pictures-append (Show image ∷ one) other = let more = pictures-append one other in omega (arith, more)
 
 pub samples-append : (one other : List Output) → samples_given (one ++ other) ≡ samples_given one ++ samples_given other
 samples-append [] other = refl
@@ -26,9 +17,6 @@ samples-append (Sound sample ∷ one) other = ap (λ samples. sample ∷ samples
 samples-append (Show image ∷ one) other = samples-append one other
 
 -- ---- all was taken
-
-nothing-written : (n : ℕ) (xs : List ℤ) → xs ≡ take n xs ++ [] ++ drop n xs
-nothing-written n xs = let whole = take-append-drop n xs in grind (arith, common_steps)
 
 -- the samples are in the buffer, after those that it had
 pub record AreWritten (outputs : List Output) (old new : Sounds) : Type 0 where
@@ -42,7 +30,7 @@ pub record AreWritten (outputs : List Output) (old new : Sounds) : Type 0 where
 
 pub are-written : (outputs : List Output) (old new : Sounds) → old.taken ≤ length old.samples.now → old.pictures ≤ 2 ^ 32 - 1
     → TookAll sounding_took old outputs new → AreWritten outputs old new
-are-written [] old new room few same = grind (arith, nothing-written)
+are-written [] old new room few same = grind (arith, common_steps)
 are-written (Sound sample ∷ more) old new room few took =
     let one = took.before in
     let between = took.between in
@@ -59,9 +47,8 @@ are-written (Show image ∷ more) old new room few took =
 
 -- ---- none is refused
 
-not-refused : {A : Type 0} (first : Output) (rest taken : List Output) (asked new : Sounds)
-    → asked.taken ≡ sound_count taken → sound_count (taken ++ first ∷ rest) ≤ length asked.samples.now
-    → sounding_refused asked first new → A
+not-refused : {A : Type 0} (first : Output) (rest taken : List Output) (asked new : Sounds) → asked.taken ≡ sound_count taken
+    → sound_count (taken ++ first ∷ rest) ≤ length asked.samples.now → sounding_refused asked first new → A
 not-refused first rest taken asked new count room full = grind (arith, sounds-append)
 
 pub none-refused : {A : Type 0} (outputs left : List Output) (old new : Sounds) → old.taken ≡ 0 → old.pictures ≡ 0
@@ -82,13 +69,6 @@ pub due-pictures : (sample : Option ℤ) (picture : Bool) (image : Image)
     → picture_count (due_with image (record { sample = sample; picture = picture })) ≤ 1
 due-pictures sample picture image = search rules
 
-some-come : (due sounds time limit after : ℕ) → sounds + time / sample_ticks ≡ after / sample_ticks → after < limit + 23
-    → due + sounds ≤ due + ((limit - 1 + 23) / sample_ticks - time / sample_ticks)
-some-come due sounds time limit after timed last = omega arith
-
-none-come : (sounds time after : ℕ) → sounds + time / sample_ticks ≡ after / sample_ticks → after ≡ time → sounds ≡ 0
-none-come sounds time after timed same = omega arith
-
 few-come : (due sounds pictures time after : ℕ) → sounds + time / sample_ticks ≡ after / sample_ticks
     → pictures + time / frame_ticks ≡ after / frame_ticks → sounds ≤ 2 ^ 32 - 1 → due ≤ 1 → due + pictures ≤ 2 ^ 32 - 1
 few-come due sounds pictures time after timed framed most one = omega arith
@@ -102,10 +82,9 @@ module _ (board : BoardValue) (microseconds : ℕ) where
 
   pub sounds-bounded : (tries : ℕ)
       → sound_count (due_outputs board ++ (course_at board microseconds tries).outputs) ≤ most_samples board.state microseconds
-  sounds-bounded tries = grind (arith, due-sounds, nat_tests, none-come, some-come, sounds-append, timed)
+  sounds-bounded tries = grind (arith, due-sounds, timed)
 
-  pub pictures-bounded : most_samples board.state microseconds ≤ 2 ^ 32 - 1
-      → picture_count (outputs_given board microseconds) ≤ 2 ^ 32 - 1
+  pub pictures-bounded : most_samples board.state microseconds ≤ 2 ^ 32 - 1 → picture_count (outputs_given board microseconds) ≤ 2 ^ 32 - 1
   pictures-bounded few =
       let walked = course_at board microseconds limit in
       let sounds = sounds-append (due_outputs board) walked.outputs in

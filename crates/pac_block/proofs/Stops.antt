@@ -33,7 +33,6 @@ module _ {Board : Type 0} (next : Moment Board → Next Board) (timely : (now : 
       choose : (h : Next Board) → next now ≡ h → next now ≡ Ends stop
       choose (Goes after outputs kind) e =
           let times = subst (IsTimely now) e (timely now) in
-          let one = one-step limit now early ∙ ap (walk_after_step (walk_at_start now)) e in
           let whole = goes-on next limit timely now (suc zero) in
           let last : (walk_to next limit after).now.time ≡ now.time = search rules in
           absurd (omega (arith, last, (walked-after next limit timely after limit).time))
@@ -85,9 +84,6 @@ module _ (board : BoardValue) (microseconds : ℕ) where
 
 -- ---- two calls
 
-least-leaves-time : (time more : ℕ) → time < time_of (least_asked time + more)
-least-leaves-time time more = omega arith
-
 module _ (board : BoardValue) (one other : ℕ) where
   abbrev now : Moment BoardView
   now = (course board one).now
@@ -120,7 +116,7 @@ module _ (board : BoardValue) (one other : ℕ) where
 
   pub stopped-again : (stop : Stop) → (course board one).stop ≡ Some stop
       → course (board_after_exec board one) other ≡ stopped_at (step (by_view board.set)) (step-timely (by_view board.set)) now stop
-  stopped-again stop met = grind (arith, least-leaves-time, met-again)
+  stopped-again stop met = grind (arith, met-again)
 
   -- and leaves what the first has left
   pub left-again : (stop : Stop) → (course board one).stop ≡ Some stop

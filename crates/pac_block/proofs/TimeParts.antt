@@ -65,15 +65,13 @@ sum-is one other whole a b c first second both sum = omega (arith, first, second
 pub host-time-cut : TimeCanBeCut → HostTimeCanBeCut
 host-time-cut cuts roms block middle parts once one other buffer first_samples more second_samples wide whole_samples first second whole
     first_done second_done whole_done = let board = kept roms (state_in block) in
-    let between = board_after_exec board one in
     let a = tells roms block one buffer middle first_samples first first_done in
     let b = subst (Tells roms other parts second_samples second) first_done.board.state_is
     (tells roms middle other more parts second_samples second second_done) in
     let c = tells roms block (one + other) wide once whole_samples whole whole_done in
     let cut = left-in-parts board one other cuts in
     let early = outputs_given board one in
-    let late = outputs_given between other in
-    let all = outputs_given board (one + other) in
+    let late = outputs_given (board_after_exec board one) other in
     record {
       block = b.text ∙ ap block_text cut.state ∙ sym c.text;
       samples =
@@ -156,11 +154,7 @@ pub record IsRead (ran : PacRan) : Type 0 where
 -- numbers below 2^32 are read back
 is-read : (ran : PacRan) → ran.samples < 2 ^ 32 → ran.pictures < 2 ^ 32 → ran.stop < 2 ^ 32 → IsRead ran
 unfolding ran_bytes
-is-read ran samples pictures stop = record {
-  samples = from_le_bytes-to_le_bytes_4 ran.samples samples;
-  pictures = from_le_bytes-to_le_bytes_4 ran.pictures pictures;
-  stop = from_le_bytes-to_le_bytes_4 ran.stop stop;
-}
+is-read ran samples pictures stop = grind (arith, from_le_bytes-to_le_bytes_4)
 
 pub ran-is-read : (roms block : List ℕ) (microseconds : ℕ) (buffer : List ℤ) (new : List ℕ) (samples : List ℤ) (ran : PacRan)
     → HasExecuted roms block microseconds buffer new samples ran → IsRead ran

@@ -63,8 +63,7 @@ woven-pixels reds greens blues (number ∷ numbers) below =
 -- four parts that follow one another
 pub four-parts : (at : ℕ) (old one two three four a b c d : List ℕ) → take (at + 16) one ≡ take at old ++ a
     → take (at + 16 + 16) two ≡ take (at + 16) one ++ b → take (at + 32 + 16) three ≡ take (at + 32) two ++ c
-    → take (at + 48 + 16) four ≡ take (at + 48) three ++ d
-    → take (at + 64) four ≡ take at old ++ (a ++ (b ++ (c ++ d)))
+    → take (at + 48 + 16) four ≡ take (at + 48) three ++ d → take (at + 64) four ≡ take at old ++ (a ++ (b ++ (c ++ d)))
 four-parts at old one two three four a b c d first second third fourth = grind (arith, common_steps)
 
 -- sixteen elements more

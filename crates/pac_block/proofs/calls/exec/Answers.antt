@@ -1,6 +1,6 @@
 -- What a call for some time leaves.
-use Rattle.pac_block.proofs.Common.{BoardState, BoardValue, List, ap, err_from_is_err_and, refl, restored_board, set_of_roms, state_of}
-use Rattle.pac_block.proofs.Common.{subst, sym, ℕ, ◌∙◌, ◌≡◌}
+use Rattle.pac_block.proofs.Common.{BoardState, List, ap, err_from_is_err_and, refl, restored_board, set_of_roms, state_of, subst, sym, ℕ}
+use Rattle.pac_block.proofs.Common.{◌∙◌, ◌≡◌}
 use Rattle.pac_board.specs.State.{IsStateInRange}
 use Rattle.pac_block.proofs.Executed.{executed, may-not-run}
 use Rattle.pac_block.proofs.Stops.{stopped-early}

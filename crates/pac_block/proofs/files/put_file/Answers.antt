@@ -1,7 +1,6 @@
 -- The file fills the buffer, which has its size.
 use Rattle.pac_block.proofs.Common.{HostBuffer, List, Result, Saves, WriteFault, arith, body, buffer_refused, buffer_took, file-size}
-use Rattle.pac_block.proofs.Common.{length, length-take-le, refl, sealed_file, state_of, sym, written_version, ℕ, ◌∙◌, ◌≡◌}
-use Rattle.std.proofs.lemmas.List.{take_all}
+use Rattle.pac_block.proofs.Common.{length, length-take-le, refl, sealed_file, state_of, sym, take_all, written_version, ℕ, ◌∙◌, ◌≡◌}
 
 -- there is room for all of it, so nothing is refused
 filled : {A : Type 0} (text : List ℕ) (result : Result A WriteFault) (old new : HostBuffer) (left : List ℕ) → old.taken ≡ 0

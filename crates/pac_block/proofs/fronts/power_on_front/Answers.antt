@@ -1,6 +1,5 @@
 -- The front of the board at power-on.
-use Rattle.pac_block.proofs.Common.{View, ap, arith, black-picture}
-use Rattle.pac_block.proofs.Common.{◌∙◌}
+use Rattle.pac_block.proofs.Common.{View, ap, arith, black-picture, ◌∙◌}
 use Rattle.pac_block.proofs.fronts.power_on_front.Goals as goal
 
 pub block_front-requires : goal.block_front-requires
