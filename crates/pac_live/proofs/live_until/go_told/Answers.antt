@@ -5,7 +5,11 @@ use Rattle.pac_live.proofs.UntilEnds.{along, few-given}
 use Rattle.pac_live.proofs.live_until.go_told.Goals as goal
 
 pub overflow_cast-sounds : goal.overflow_cast-sounds
-overflow_cast-sounds g c = grind (arith, along, are-written, few-given)
+overflow_cast-sounds g c =
+    let gone = c.go_on-ended.ensures in
+    let written = are-written gone.given _ c.go_on-ended.new.sounds (omega arith) (omega arith) gone.took in
+    let few = few-given (along c.go_on-ended.result.0 _ _ _ c.args.board.now gone.given _ _ _ gone.went) c.requires.soon in
+    omega (arith, written.taken, few.0)
 
 pub returns : goal.returns
 returns g c =
