@@ -27,13 +27,13 @@ unfolding control_bytes
 memory-again version digest bytes state pieces held =
     let memory = state.now.board.memory in
     rw (
-      pieces.controls,
+      pieces 15,
       from_le_bytes-to_le_bytes_2 memory.held held,
-      pieces.tile,
-      pieces.colour,
-      pieces.work,
-      pieces.coordinates,
-      pieces.registers,
+      pieces 7,
+      pieces 8,
+      pieces 9,
+      pieces 10,
+      pieces 11,
       bits_of-byte_of memory.latched.bits,
       digit-again memory.latched.request,
     )
@@ -51,24 +51,24 @@ pub same-again : (version : ℕ) (of_set bytes : List ℕ) (state : BoardState) 
 same-again version of_set bytes state is pieces picture =
     let board = state.now.board in
     rw (
-      pieces.processor,
+      pieces 3,
       regs-again state.now.regs is.words,
       memory-again version of_set bytes state pieces is.held,
-      pieces.first,
+      pieces 12,
       from_le_bytes-to_le_bytes_4 board.accumulators.first (omega arith),
-      pieces.second,
+      pieces 13,
       from_le_bytes-to_le_bytes_4 board.accumulators.second (omega arith),
-      pieces.third,
+      pieces 14,
       from_le_bytes-to_le_bytes_4 board.accumulators.third (omega arith),
       picture,
       lines-again board.lines is.range.picture,
-      pieces.time,
+      pieces 4,
       from_le_bytes-to_le_bytes_8 state.now.time (omega arith),
-      pieces.steps,
+      pieces 5,
       from_le_bytes-to_le_bytes_8 state.now.steps (omega arith),
-      pieces.asked,
+      pieces 6,
       from_le_bytes-to_le_bytes_8 state.asked (omega arith),
-      pieces.due,
+      pieces 16,
       due-again state.due is.sample,
     )
 

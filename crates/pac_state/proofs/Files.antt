@@ -29,13 +29,13 @@ text-version : (version : ℕ) (set : Parts) (state : BoardState) → is_known v
     → version_in (save_text version set state) ≡ version
 text-version version set state known is =
     let pieces = has-pieces version (digest_of set) state (length-sha1 _) is.memory in
-    rw pieces.version (from_le_bytes-to_le_bytes_2 version (known-word version known))
+    rw (pieces 1) (from_le_bytes-to_le_bytes_2 version (known-word version known))
 
 text-begins : (version : ℕ) (set : Parts) (state : BoardState) → IsState state → begins_with_magic (save_text version set state) ≡ true
 text-begins version set state is =
     rw (text-size version set state is)
     ((bytes_eq-Decides (take 8 (save_text version set state)) magic).1
-    (has-pieces version (digest_of set) state (length-sha1 _) is.memory).magic)
+    (has-pieces version (digest_of set) state (length-sha1 _) is.memory 0))
 
 text-no-other : (version : ℕ) (set : Parts) (state : BoardState) → is_known version ≡ true → IsState state
     → is_of_another_version (save_text version set state) ≡ false
@@ -52,14 +52,16 @@ text-of-set : (version : ℕ) (set : Parts) (state : BoardState) → IsState sta
     is_of_set (digest_of set) (save_text version set state) ≡ true
 text-of-set version set state is =
     let pieces = has-pieces version (digest_of set) state (length-sha1 _) is.memory in
-    (bytes_eq-Decides (digest_of set) (bytes_at_place 10 20 (save_text version set state))).1 (sym pieces.digest)
+    (bytes_eq-Decides (digest_of set) (bytes_at_place 10 20 (save_text version set state))).1 (sym (pieces 2))
 
 text-sound : (version : ℕ) (set : Parts) (state : BoardState) → is_known version ≡ true → IsState state
     → load_fault (digest_of set) (save_text version set state) ≡ None
 text-sound version set state known is = grind (arith, none-found, text-begins, text-no-other, text-of-set, text-sealed, text-size)
 
 text-written : (version : ℕ) (set : Parts) (state : BoardState) → IsState state → AreWritten state (save_text version set state)
-text-written version set state is = let pieces = has-pieces version (digest_of set) state (length-sha1 _) is.memory in search rules
+text-written version set state is =
+    let pieces = has-pieces version (digest_of set) state (length-sha1 _) is.memory in
+    record { processor = sym (pieces 3); controls = sym (pieces 15); due = sym (pieces 16) }
 
 text-is-text : (version : ℕ) (set : Parts) (state : BoardState) → IsState state → IsText (save_text version set state)
 text-is-text version set state is =

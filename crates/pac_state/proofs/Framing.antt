@@ -2,7 +2,7 @@
 use Rattle.pac_state.proofs.Common.{BoardState, Fields, IsBlock, IsFramed, IsPicture, IsState, IsText, IsWellFormed, List, None, Option}
 use Rattle.pac_state.proofs.Common.{Some, TellsFields, [], ap, append_assoc, arith, block_text, body, bytes_at_place}
 use Rattle.pac_state.proofs.Common.{file_front, file_size, flat_map, flat_map-split, from_le_bytes, from_le_bytes-to_le_bytes_2, get_or}
-use Rattle.pac_state.proofs.Common.{joined_pieces, length, length-append, no_digest, refl, rules, state_in, subst, sym, take, take_all, w16}
+use Rattle.pac_state.proofs.Common.{joined_pieces, length, length-append, no_digest, refl, state_in, subst, sym, take, take_all, w16}
 use Rattle.pac_state.proofs.Common.{written_version, ℕ, ◌+◌, ◌<◌, ◌∙◌, ◌≡◌, ◌≤◌}
 use Rattle.pac_state.proofs.Again.{same-again}
 use Rattle.pac_state.proofs.Files.{sizes}
@@ -11,10 +11,9 @@ use Rattle.pac_state.proofs.Written.{HasPieces, front-pieces, part-at, length-fr
 
 -- ---- the block of a state
 
-block-pieces : (state : BoardState) → IsWellFormed state.now.board.memory
-    → HasPieces written_version no_digest state (block_text state)
+block-pieces : (state : BoardState) → IsWellFormed state.now.board.memory → HasPieces written_version no_digest state (block_text state)
 unfolding block_text
-block-pieces state formed = rw append_assoc (front-pieces written_version no_digest state _ refl formed)
+block-pieces state formed k = rw append_assoc (front-pieces written_version no_digest state _ refl formed k)
 
 block-end : (state : BoardState) → IsWellFormed state.now.board.memory → IsPicture state.now.board.lines
     → bytes_at_place 67736 20 (block_text state) ≡ no_digest
@@ -45,15 +44,16 @@ framed-of bytes size block =
     let pieces = subst (HasPieces written_version no_digest (state_in bytes)) (sym block.text) (block-pieces (state_in bytes) well) in
     let end = ap (bytes_at_place 67736 20) block.text ∙ block-end (state_in bytes) well block.in_range.picture in
     record {
-      magic = sym pieces.magic;
-      version = ap (from_le_bytes w16) pieces.version ∙ from_le_bytes-to_le_bytes_2 2 (omega arith);
-      digests = record { set = sym pieces.digest; end = sym end };
+      magic = sym (pieces 0);
+      version = ap (from_le_bytes w16) (pieces 1) ∙ from_le_bytes-to_le_bytes_2 2 (omega arith);
+      digests = record { set = sym (pieces 2); end = sym end };
     }
 
 text-of-block : (bytes : List ℕ) → length bytes ≡ file_size → IsBlock bytes → IsText bytes
 text-of-block bytes size block =
     let pieces = subst (HasPieces written_version no_digest (state_in bytes)) (sym block.text)
-    (block-pieces (state_in bytes) (sizes bytes size block.in_range)) in search rules
+    (block-pieces (state_in bytes) (sizes bytes size block.in_range)) in
+    record { in_range = block.in_range; written = record { processor = sym (pieces 3); controls = sym (pieces 15); due = sym (pieces 16) } }
 
 block-of : (bytes : List ℕ) → AreBytes bytes → length bytes ≡ file_size → IsFramed bytes → IsText bytes → IsBlock bytes
 unfolding block_text

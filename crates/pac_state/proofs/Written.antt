@@ -6,6 +6,8 @@ use Rattle.pac_state.proofs.Common.{lines_of, magic, processor_bytes, ram, refl,
 use Rattle.pac_state.proofs.Common.{sealed_file, sha1, subst, suc, sym, tabulate-is, take, take-append_seam, take_all, written_version}
 use Rattle.pac_state.proofs.Common.{zero, ℕ, ◌*◌, ◌++◌, ◌+◌, ◌<◌, ◌∙◌, ◌∷◌, ◌≡◌, ◌≤◌}
 use Rattle.pac_state.proofs.Whole.{cut, total}
+use Rattle.std.specs.Prelude.{sum}
+use Rattle.std.proofs.lemmas.List.Sums.{sum_by-cons}
 
 -- ---- pieces of a text, cut out of it
 
@@ -33,6 +35,15 @@ cut-joined before (piece ∷ more) after =
       cut-joined (before ++ piece) more after,
     )
 
+cut-at : (at : ℕ) (sizes bytes : List ℕ) (k : ℕ)
+    → get_or (cut at sizes bytes) k [] ≡ bytes_at_place (at + sum (take k sizes)) (get_or sizes k 0) bytes
+unfolding cut
+cut-at at [] bytes k = refl
+cut-at at (width ∷ more) bytes zero = let none : at + 0 ≡ at = omega arith in rw none refl
+cut-at at (width ∷ more) bytes (suc k) =
+    let place : at + width + sum (take k more) ≡ at + sum (width ∷ take k more) = omega (arith, sum_by-cons (λ n. n) width (take k more)) in
+    cut-at (at + width) more bytes k ∙ ap (λ n. bytes_at_place n (get_or more k 0) bytes) place
+
 length-joined : (parts : List (List ℕ)) → length (joined_pieces parts) ≡ total (widths parts)
 unfolding total
 length-joined [] = refl
@@ -41,79 +52,53 @@ length-joined (piece ∷ more) = rw (length-append, length-joined more)
 -- ---- the pieces of a state
 
 abbrev pieces : ℕ → List ℕ → BoardState → List (List ℕ)
-pieces version digest state = (head version digest state ++ ram state) ++ devices state
+pieces version digest state =
+    let now = state.now in
+    let memory = now.board.memory in
+    let sound = now.board.accumulators in
+    magic ∷ saved_word version ∷ digest ∷ processor_bytes now.regs ∷ saved_long_word now.time ∷ saved_long_word now.steps
+    ∷ saved_long_word state.asked ∷ memory.tile ∷ memory.colour ∷ memory.work ∷ memory.coordinates ∷ memory.registers
+    ∷ saved_double_word sound.first ∷ saved_double_word sound.second ∷ saved_double_word sound.third ∷ control_bytes memory
+    ∷ due_bytes state.due ∷ []
 
 abbrev places : List ℕ
 places = 8 ∷ 2 ∷ 20 ∷ 28 ∷ 8 ∷ 8 ∷ 8 ∷ 1024 ∷ 1024 ∷ 1024 ∷ 16 ∷ 32 ∷ 4 ∷ 4 ∷ 4 ∷ 7 ∷ 3 ∷ []
 
+listed : (version : ℕ) (digest : List ℕ) (state : BoardState)
+    → pieces version digest state ≡ (head version digest state ++ ram state) ++ devices state
+unfolding head ram devices
+listed version digest state = refl
+
 joined-pieces : (version : ℕ) (digest : List ℕ) (state : BoardState) →
     joined_pieces (pieces version digest state) ≡ file_front version digest state
-joined-pieces version digest state = grind (arith, flat_map-append)
+joined-pieces version digest state =
+    let parts : joined_pieces ((head version digest state ++ ram state) ++ devices state) ≡ file_front version digest state
+    = grind (arith, flat_map-append) in ap joined_pieces (listed version digest state) ∙ parts
 
 widths-are : (version : ℕ) (digest : List ℕ) (state : BoardState) → length digest ≡ 20 → IsWellFormed state.now.board.memory
     → widths (pieces version digest state) ≡ places
-unfolding head ram devices processor_bytes control_bytes due_bytes
+unfolding processor_bytes control_bytes due_bytes
 widths-are version digest state long sizes = rw (long, sizes.tile, sizes.colour, sizes.work, sizes.coordinates, sizes.registers) refl
 
--- where each piece stands
-pub record HasPieces (number : ℕ) (of_set : List ℕ) (state : BoardState) (bytes : List ℕ) : Type 0 where
-  pub magic : bytes_at_place 0 8 bytes ≡ magic
-  pub version : bytes_at_place 8 2 bytes ≡ saved_word number
-  pub digest : bytes_at_place 10 20 bytes ≡ of_set
-  pub processor : bytes_at_place 30 28 bytes ≡ processor_bytes state.now.regs
-  pub time : bytes_at_place 58 8 bytes ≡ saved_long_word state.now.time
-  pub steps : bytes_at_place 66 8 bytes ≡ saved_long_word state.now.steps
-  pub asked : bytes_at_place 74 8 bytes ≡ saved_long_word state.asked
-  pub tile : bytes_at_place 82 1024 bytes ≡ state.now.board.memory.tile
-  pub colour : bytes_at_place 1106 1024 bytes ≡ state.now.board.memory.colour
-  pub work : bytes_at_place 2130 1024 bytes ≡ state.now.board.memory.work
-  pub coordinates : bytes_at_place 3154 16 bytes ≡ state.now.board.memory.coordinates
-  pub registers : bytes_at_place 3170 32 bytes ≡ state.now.board.memory.registers
-  pub first : bytes_at_place 3202 4 bytes ≡ saved_double_word state.now.board.accumulators.first
-  pub second : bytes_at_place 3206 4 bytes ≡ saved_double_word state.now.board.accumulators.second
-  pub third : bytes_at_place 3210 4 bytes ≡ saved_double_word state.now.board.accumulators.third
-  pub controls : bytes_at_place 3214 7 bytes ≡ control_bytes state.now.board.memory
-  pub due : bytes_at_place 3221 3 bytes ≡ due_bytes state.due
+-- in the order of these places, each piece stands at its place
+abbrev pub HasPieces : ℕ → List ℕ → BoardState → List ℕ → Type 0
+HasPieces number of_set state bytes =
+    (k : ℕ) → bytes_at_place (0 + sum (take k places)) (get_or places k 0) bytes ≡ get_or (pieces number of_set state) k []
 
-front-cut : (version : ℕ) (digest : List ℕ) (state : BoardState) (after : List ℕ) → length digest ≡ 20 → IsWellFormed state.now.board.memory
-    → cut 0 places (file_front version digest state ++ after) ≡ pieces version digest state
-front-cut version digest state after long sizes =
+pub front-pieces : (version : ℕ) (digest : List ℕ) (state : BoardState) (after : List ℕ) → length digest ≡ 20
+    → IsWellFormed state.now.board.memory → HasPieces version digest state (file_front version digest state ++ after)
+front-pieces version digest state after long sizes k =
+    let all : cut 0 places (file_front version digest state ++ after) ≡ pieces version digest state =
     rw (← widths-are version digest state long sizes, ← joined-pieces version digest state)
-    (cut-joined [] (pieces version digest state) after)
-
-nth : (n : ℕ) {one other : List (List ℕ)} → one ≡ other → get_or one n [] ≡ get_or other n []
-nth n same = ap (λ (parts : List (List ℕ)). get_or parts n []) same
-
-pub front-pieces : (version : ℕ) (digest : List ℕ) (state : BoardState) (after : List ℕ) → length digest ≡ 20 →
-    IsWellFormed state.now.board.memory
-    → HasPieces version digest state (file_front version digest state ++ after)
-unfolding cut head ram devices
-front-pieces version digest state after long sizes =
-    let same = front-cut version digest state after long sizes in
-    record {
-      magic = nth 0 same;
-      version = nth 1 same;
-      digest = nth 2 same;
-      processor = nth 3 same;
-      time = nth 4 same;
-      steps = nth 5 same;
-      asked = nth 6 same;
-      tile = nth 7 same;
-      colour = nth 8 same;
-      work = nth 9 same;
-      coordinates = nth 10 same;
-      registers = nth 11 same;
-      first = nth 12 same;
-      second = nth 13 same;
-      third = nth 14 same;
-      controls = nth 15 same;
-      due = nth 16 same;
-    }
+    (cut-joined [] (pieces version digest state) after) in
+    sym (cut-at 0 places _ k) ∙ ap (λ (parts : List (List ℕ)). get_or parts k []) all
 
 pub length-front : (version : ℕ) (digest : List ℕ) (state : BoardState) → length digest ≡ 20 → IsWellFormed state.now.board.memory
     → length (file_front version digest state) ≡ 3224
 unfolding total
-length-front version digest state long sizes = rw (← joined-pieces) (grind (arith, length-joined, total, widths-are))
+length-front version digest state long sizes =
+    ap length (sym (joined-pieces version digest state)) ∙ length-joined (pieces version digest state)
+    ∙ ap total (widths-are version digest state long sizes)
 
 -- these pieces, one after another, are the head, and the devices
 pub head-is : (digest : List ℕ) (state : BoardState) {version cpu time steps asked : List ℕ} → version ≡ saved_word written_version
@@ -123,11 +108,10 @@ pub head-is : (digest : List ℕ) (state : BoardState) {version cpu time steps a
 unfolding head
 head-is digest state version cpu time steps asked = cc
 
-pub devices-are : (state : BoardState) {first second third controls due : List ℕ}
-    → first ≡ saved_double_word state.now.board.accumulators.first → second ≡ saved_double_word state.now.board.accumulators.second
-    → third ≡ saved_double_word state.now.board.accumulators.third → controls ≡ control_bytes state.now.board.memory
-    → due ≡ due_bytes state.due →
-    joined_pieces (state.now.board.memory.coordinates ∷ state.now.board.memory.registers ∷ first ∷ second ∷ third ∷ controls ∷ due ∷ [])
+pub devices-are : (state : BoardState) {first second third controls due : List ℕ} → first
+    ≡ saved_double_word state.now.board.accumulators.first → second ≡ saved_double_word state.now.board.accumulators.second → third
+    ≡ saved_double_word state.now.board.accumulators.third → controls ≡ control_bytes state.now.board.memory → due ≡ due_bytes state.due
+    → joined_pieces (state.now.board.memory.coordinates ∷ state.now.board.memory.registers ∷ first ∷ second ∷ third ∷ controls ∷ due ∷ [])
     ≡ joined_pieces (devices state)
 unfolding devices
 devices-are state first second third controls due = cc
@@ -189,7 +173,7 @@ length-sha1 message = refl
 
 pub has-pieces : (version : ℕ) (digest : List ℕ) (state : BoardState) → length digest ≡ 20 → IsWellFormed state.now.board.memory
     → HasPieces version digest state (sealed_file (body version digest state))
-has-pieces version digest state long sizes = rw append_assoc (front-pieces version digest state _ long sizes)
+has-pieces version digest state long sizes k = rw append_assoc (front-pieces version digest state _ long sizes k)
 
 pub has-picture : (version : ℕ) (digest : List ℕ) (state : BoardState) → length digest ≡ 20 → IsWellFormed state.now.board.memory
     → IsPicture state.now.board.lines →
