@@ -18,6 +18,9 @@ use pac_board_course::{Board, Refused, Sink, Stop};
 /// The steps from one checkpoint to the next (this profile).
 pub const CHECKPOINT_STEPS: u64 = 4096;
 
+/// How many steps are so many that an idle loop is looked for: a checkpoint is come to by leaps that are ever shorter.
+const LONG_LEAP: u64 = 1024;
+
 /// The T-states of the shortest step.
 const LEAST_TICKS: u64 = 4;
 
@@ -53,10 +56,12 @@ impl Session {
         ensures { IsLeapLimit self.now most result }
     {
         let most = most.min(CHECKPOINT_STEPS - self.board.steps() % CHECKPOINT_STEPS);
-        match self.board.idle_limit(most) {
-            Some(limit) => limit,
-            None => self.board.time() + LEAST_TICKS * most,
+        if most >= LONG_LEAP
+            && let Some(limit) = self.board.idle_limit(most)
+        {
+            return limit;
         }
+        self.board.time() + LEAST_TICKS * most
     }
 
     /// Does steps in one go, so many at most, none past the next index of a checkpoint, none past
