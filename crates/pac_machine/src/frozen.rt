@@ -8,7 +8,7 @@ ghost use Rattle.pac_board_model.specs.BoardView.{power_on_board_view};
 use crate::machine::Machine;
 use pac_cpu::Cpu;
 use pac_map::Memory;
-use pac_picture::{Lines, Picture};
+use pac_picture::{PackedLines, Picture};
 use pac_wave::Wave;
 use std::marker::Model;
 
@@ -18,7 +18,7 @@ pub struct Frozen {
     cpu: Cpu,
     memory: Memory,
     wave: Wave,
-    lines: Lines,
+    lines: PackedLines,
     clock: u64,
     steps: u64,
 }
@@ -57,7 +57,7 @@ impl Frozen {
             cpu: Cpu::power_on(),
             memory: Memory::new(0),
             wave: Wave::new(),
-            lines: Lines::new(),
+            lines: PackedLines::new(),
             clock: 0,
             steps: 0,
         }
@@ -70,7 +70,7 @@ fn bring_back(picture: &mut Picture, frozen: &Frozen)
         ≡ record picture.old { lines = frozen.now.board.lines; shadows = picture.new.shadows } }
     ensures stale { AreStale picture.new.shadows }
 {
-    picture.copy_from(frozen.lines.raw());
+    picture.unpack(&frozen.lines);
 }
 
 impl Machine {
@@ -81,7 +81,7 @@ impl Machine {
         frozen.cpu = Cpu::with_regs(self.cpu.regs());
         frozen.memory.copy_from(&self.map.memory);
         frozen.wave.copy_from(&self.wave);
-        frozen.lines.copy_from(self.picture.lines().raw());
+        frozen.lines.pack(self.picture.lines());
         frozen.clock = self.clock;
         frozen.steps = self.steps;
     }

@@ -13,6 +13,7 @@ pub mod Masks
 pub mod Counts
 pub mod Layers
 pub mod Composed
+pub mod Unpacked
 pub mod CleanLines
 pub mod Stale
 pub use Rattle.pac_num.proofs.Tabulated

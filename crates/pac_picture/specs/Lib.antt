@@ -7,6 +7,7 @@ pub mod Strips
 pub mod Decoded
 pub mod State
 pub mod StateLaws
+pub mod Packed
 pub mod Painting
 pub mod CleanLines
 pub mod Laws

@@ -7,6 +7,7 @@ mod graphics;
 pub mod laws;
 mod layer;
 mod lines;
+mod packed;
 mod painting;
 mod picture;
 mod raw;
@@ -17,6 +18,7 @@ mod strip;
 
 pub use graphics::Graphics;
 pub use lines::{Lines, compose_alone};
+pub use packed::PackedLines;
 pub use picture::Picture;
 pub use raw::{RawLines, is_picture, put_vector, raw_row};
 pub use screen::Screen;

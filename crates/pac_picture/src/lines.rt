@@ -17,6 +17,7 @@ ghost use Rattle.pac_picture.specs.CleanLines.{MarksClean};
 use crate::clean::Clean;
 use crate::graphics::Graphics;
 use crate::layer::{Layer, lay_alone};
+use crate::packed::PackedLines;
 use crate::painting::paint_unless_none;
 use crate::raw::RawLines;
 use crate::screen::Screen;
@@ -113,6 +114,15 @@ impl Lines {
         ensures { self.new ≡ lines.now }
     {
         self.lines = *lines;
+    }
+
+    /// Takes lines that are packed.
+    pub(crate) fn unpack(&mut self, packed: &PackedLines)
+        ensures { self.new ≡ packed.now }
+    {
+        for y in 0..HEIGHT {
+            packed.unpack_line(y, &mut self.lines[y as usize]);
+        }
     }
 
     /// Composes line y of the shown picture, through a layer whose row of that line is drawn from the screen: a line on

@@ -21,6 +21,7 @@ use crate::clean::Clean;
 use crate::graphics::Graphics;
 use crate::layer::Layer;
 use crate::lines::Lines;
+use crate::packed::PackedLines;
 use crate::raw::RawLines;
 use crate::screen::Screen;
 use crate::size::ROWS;
@@ -259,6 +260,17 @@ impl Picture {
     {
         self.clean.clear();
         self.lines.copy_from(lines);
+        self.layer.set_stale();
+    }
+
+    /// Takes lines that are packed; every cell counts as differing then.
+    pub fn unpack(&mut self, packed: &PackedLines)
+        ensures picture { self.new ≡ record self.old
+            { lines = packed.now; shadows = map made_stale self.old.shadows } }
+        ensures stale { AreStale self.new.shadows }
+    {
+        self.clean.clear();
+        self.lines.unpack(packed);
         self.layer.set_stale();
     }
 
