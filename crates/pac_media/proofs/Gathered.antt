@@ -4,6 +4,11 @@ use Rattle.pac_media.proofs.Common.{SoundFails, Stops, StopsAfter, WriteFault, [
 use Rattle.pac_media.proofs.Common.{flat_map-append, flat_map_more, if◌then◌else◌, length, pos, replicate, replicate-append-replicate}
 use Rattle.pac_media.proofs.Common.{replicate_more, rules, sample_text, samples_text, stops-after, stops-within, subst, sym, ℕ, ◌++◌, ◌+◌}
 use Rattle.pac_media.proofs.Common.{◌-◌, ◌/◌, ◌<◌, ◌∙◌, ◌≡◌, ◌≤◌}
+use Rattle.std.proofs.Common.{ℤ, map, get_or, ◌∷◌}
+use Rattle.std.proofs.lemmas.List.{get_or_default}
+use Rattle.pac_media.proofs.Common.{flat_map}
+use Rattle.std.proofs.lemmas.List.{same_lists, length-map, get_or-map}
+use Rattle.std.proofs.lemmas.List.Folds.{flat_map-map}
 
 -- where there is room for a sample, its two bytes fit
 pub room-left : (failed : Bool) (waiting : ℕ) → 0 < (if failed then 0 else (8192 - waiting) / 2) → waiting + 2 ≤ 8192
@@ -118,3 +123,26 @@ pub silence-rest : (count all : ℕ) → count < all
 silence-rest count all below =
     let sum : (count + 1) + (all - (count + 1)) ≡ all = omega (arith, below) in
     rw (silence-more count, ← flat_map-append sample_text, replicate-append-replicate, sum)
+
+-- the bytes of samples, joined
+pub bytes-joined : (samples : List ℤ) (bytes : List (List ℕ)) → length samples ≡ 16 → length bytes ≡ 16 →
+    ((k : ℕ) → k < 16 → get_or bytes k [] ≡ sample_text (get_or samples k (pos 0))) → flat_map (λ x. x) bytes ≡ samples_text samples
+bytes-joined samples bytes long same each =
+    rw (same_lists bytes (map sample_text samples) (same ∙ sym long ∙ sym (length-map samples sample_text))
+    (λ k d inside. get_or_default bytes k d [] inside ∙ each k (omega (arith, same, inside))
+    ∙ sym (get_or-map sample_text samples k (pos 0) d (omega (arith, same, long, inside)))))
+    (flat_map-map (λ x. x) sample_text samples)
+
+-- samples that were given, and those that are left
+pub parts-kept : (given more : List ℤ) (waiting : List ℕ) {left : List ℤ} {later bytes all : List ℕ} → left ≡ given ++ more →
+    bytes ≡ samples_text given → later ≡ waiting ++ bytes → waiting ++ samples_text left ≡ all → later ++ samples_text more ≡ all
+parts-kept given more waiting parts text kept whole =
+    rw (kept, text, append_assoc) (rw (parts, flat_map-append sample_text given more) at whole)
+
+-- where no samples are left, all were given
+pub none-left : {W : Type 0} (sound : Sound W) (more : ℕ) (samples : List ℤ) {file : Counted W} {waiting all : List ℕ} {owed left : ℕ} →
+    (file ≡ sound.file) × (owed ≡ sound.owed) → length samples ≡ 0 → waiting ++ samples_text samples ≡ all → left ≡ owed - more →
+    ◌≡◌ {A = Sound W} (record { file = file; waiting = waiting; owed = left })
+    (record { file = sound.file; waiting = all; owed = sound.owed - more })
+none-left sound more [] others none text left = grind (arith, append-nil)
+none-left sound more (sample ∷ later) others none text left = absurd (omega (arith, none))

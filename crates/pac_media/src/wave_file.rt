@@ -2,6 +2,7 @@
 
 ghost use Rattle.std.specs.Prelude.{◌≡◌, ◌<◌, ◌≤◌, ◌+◌, ◌-◌, ◌^◌, [], ◌++◌, length, true, pos};
 ghost use Rattle.std.specs.Prelude.{replicate, IsErr, OnOk, MatchBool};
+ghost use Rattle.std.specs.List.{flat_map};
 ghost use Rattle.pac_out.specs.Pieces.{joined_pieces};
 ghost use Rattle.pac_media.specs.Samples.{riff_size, wav_header, sample_text, samples_text};
 ghost use Rattle.pac_media.specs.Sound.{HasText, Gains, GivesSound, FinishesSound, sample_room};
@@ -44,6 +45,22 @@ fn bytes_of(sample: i16) -> [u8; 2]
     ensures { result ≡ sample_text sample }
 {
     sample.to_le_bytes()
+}
+
+/// Samples that are gathered at once.
+const CHUNK: usize = 16;
+
+/// The bytes of some samples, one after another.
+#[inline(always)]
+fn chunk_bytes(samples: &[i16; CHUNK]) -> [[u8; 2]; CHUNK]
+    ensures text { flat_map (λ x. x) result ≡ samples_text samples.now }
+    ensures size { length result ≡ 16 }
+{
+    let mut bytes = [[0; 2]; CHUNK];
+    for k in 0..CHUNK {
+        bytes[k] = bytes_of(samples[k]);
+    }
+    bytes
 }
 
 /// Gathers bytes after those that wait where there is room for them, and tells whether there is.
@@ -115,16 +132,24 @@ impl<W: Out> WaveFile<W> {
         (8192 - self.waiting.len()) / 2
     }
 
-    /// Gathers a sample that there is room for.
-    #[inline]
-    pub fn keep(&mut self, sample: i16)
-        requires { 0 < sample_room self.old }
-        ensures put { Gains W.took self.old (sample_text sample) self.new }
-        ensures owed { self.new.owed ≡ self.old.owed - 1 }
-        ensures room { sample_room self.new ≡ sample_room self.old - 1 }
+    /// Gathers samples that there is room for.
+    pub fn keep_all(&mut self, samples: &[i16])
+        requires { length samples.now ≤ sample_room self.old }
+        ensures { self.new ≡ record self.old {
+          waiting = self.old.waiting ++ samples_text samples.now;
+          owed = self.old.owed - length samples.now;
+        } }
     {
-        keep(&mut self.waiting, &bytes_of(sample));
-        self.owed = self.owed.saturating_sub(1);
+        let mut left = samples;
+        'chunks: while let Some((chunk, more)) = left.split_first_chunk() {
+            keep(&mut self.waiting, chunk_bytes(chunk).as_flattened());
+            left = more;
+        }
+        'rest: while let Some((sample, more)) = left.split_first() {
+            keep(&mut self.waiting, &bytes_of(*sample));
+            left = more;
+        }
+        self.owed = self.owed.saturating_sub(samples.len() as u32);
     }
 
     /// Gathers a sample's bytes, and writes what waits where there is no room for them.

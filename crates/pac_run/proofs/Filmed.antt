@@ -4,6 +4,9 @@ use Rattle.pac_run.proofs.Common.{[], ap, append-nil, append_assoc, arith, film_
 use Rattle.pac_run.proofs.Common.{image_bytes, images_text, length, length-append, outputs_before, picture_count, pos, refl, replicate}
 use Rattle.pac_run.proofs.Common.{rules, sample_bytes, sample_text, samples_in, samples_text, sound_text, wav_header, wave_file_text}
 use Rattle.pac_run.proofs.Common.{wave_so_far, ℕ, ℤ, ◌*◌, ◌++◌, ◌+◌, ◌-◌, ◌∙◌, ◌∷◌, ◌≡◌, ◌≤◌}
+use Rattle.pac_run.proofs.Common.{map, subst}
+use Rattle.pac_media.proofs.Gathered.{gains-waiting}
+use Rattle.pac_run.specs.Films.{TookSample}
 use Rattle.pac_run.proofs.Heard.{all-before, frames-append, pictures-counted, samples-add-none, size, sound-bytes}
 use Rattle.std.proofs.lemmas.Bool.Decides.{nat_tests}
 
@@ -107,3 +110,45 @@ module _ {F W : Type 0} (at : Reel F W) (total : ℕ) where
   pub zeros-last : (outputs : List Output) (mid : Film F W) → Filmed outputs mid
       → wave_so_far total outputs ++ samples_text (replicate mid.wave.owed (pos 0)) ≡ wave_file_text total outputs
   zeros-last outputs mid has = cc (has.owed, append-nil outputs, wave-whole total outputs [])
+
+-- ---- samples that wait
+
+-- a film of which these bytes wait, and which owes so many samples
+abbrev film-of : {F W : Type 0} → Film F W → List ℕ → ℕ → Film F W
+film-of film text owed = record film { wave = record film.wave { waiting = text; owed = owed } }
+
+-- one with some samples more
+abbrev pub film-with : {F W : Type 0} → Film F W → List ℤ → Film F W
+film-with film samples = film-of film (film.wave.waiting ++ samples_text samples) (film.wave.owed - length samples)
+
+abbrev film-next : {F W : Type 0} → Film F W → ℤ → Film F W
+film-next film sample = film-of film (film.wave.waiting ++ sample_text sample) (film.wave.owed - 1)
+
+film-joined : {F W : Type 0} (film : Film F W) (sample : ℤ) (more : List ℤ) →
+    film-with (film-next film sample) more ≡ film-with film (sample ∷ more)
+film-joined film sample more =
+    let text = append_assoc film.wave.waiting (sample_text sample) (samples_text more) in
+    let left : (film.wave.owed - 1) - length more ≡ film.wave.owed - length (sample ∷ more) = omega arith in
+    ap (λ text. film-of film text ((film.wave.owed - 1) - length more)) text
+    ∙ ap (film-of film (film.wave.waiting ++ samples_text (sample ∷ more))) left
+
+film-same : {F W : Type 0} (film : Film F W) → film-with film [] ≡ film
+film-same film =
+    let left : film.wave.owed - length {A = ℤ} [] ≡ film.wave.owed = omega arith in
+    ap (λ text. film-of film text (film.wave.owed - length {A = ℤ} [])) (append-nil film.wave.waiting)
+    ∙ ap (film-of film film.wave.waiting) left
+
+module _ {F W : Type 0} (took_f : F → List ℕ → F → Type 0) (took_w : W → List ℕ → W → Type 0) where
+  took-next : (film : Film F W) (sample : ℤ) → TookSample took_w film sample (film-next film sample)
+  took-next film sample = record { frames = refl; wave = gains-waiting refl refl refl; owed = refl; fault = refl }
+
+  -- are taken one by one
+  pub took-each : (samples : List ℤ) (film : Film F W) → TookAll (film_took took_f took_w) film (map Sound samples) (film-with film samples)
+  took-each [] film = film-same film
+  took-each (sample ∷ more) film =
+      record {
+        between = film-next film sample;
+        before = took-next film sample;
+        after = subst (TookAll (film_took took_f took_w) (film-next film sample) (map Sound more)) (film-joined film sample more)
+            (took-each more (film-next film sample));
+      }

@@ -43,9 +43,7 @@ impl<F: Out, W: Out> Sink for Film<F, W> {
 
     /// Puts the samples into the wave file.
     fn samples(&mut self, samples: &[i16]) {
-        for sample in samples {
-            self.keep(*sample);
-        }
+        self.wave.keep_all(samples);
     }
 
     /// Puts the sample into the wave file.
@@ -72,16 +70,6 @@ impl<F: Out, W: Out> Sink for Film<F, W> {
 const FRAME_SAMPLES: u32 = pac_board_course::FRAME_SAMPLES as u32;
 
 impl<F: Out, W: Out> Film<F, W> {
-    /// Puts a sample that there is room for into the wave file.
-    #[inline]
-    fn keep(&mut self, sample: i16)
-        requires { 0 < sample_room self.old.wave }
-        ensures took { film_took F.took W.took self.old (Sound sample) self.new }
-        ensures room { sample_room self.new.wave ≡ sample_room self.old.wave - 1 }
-    {
-        self.wave.keep(sample);
-    }
-
     /// Writes the samples that wait, and then puts the picture's image into the film: so no image is written before its sound.
     fn show(&mut self, picture: &Picture) -> Result<(), Refused>
         ensures { IsOffer
