@@ -2,7 +2,7 @@
 use Rattle.pac_picture.proofs.Common.{Bool, List, [], arith, bit_mask_l, cond, false, get_or, get_or-chunk, get_or-replicate-all}
 use Rattle.pac_picture.proofs.Common.{get_or-zip2, if◌then◌else◌, ints, is_in_box, length, length-chunk, length-replicate, length-zip2, map}
 use Rattle.pac_picture.proofs.Common.{mask_l-mod, nat_tests, pos, refl, replicate, slice_index, suc, sym, tops_compared, zero, zero-div, ℕ}
-use Rattle.pac_picture.proofs.Common.{◌%◌, ◌*◌, ◌+◌, ◌-ℤ◌, ◌-◌, ◌/◌, ◌<◌, ◌==◌, ◌^◌, ◌∙◌, ◌∷◌, ◌≡◌}
+use Rattle.pac_picture.proofs.Common.{◌%◌, ◌*◌, ◌+◌, ◌-ℤ◌, ◌-◌, ◌/◌, ◌<◌, ◌^◌, ◌∙◌, ◌∷◌, ◌≡◌}
 use lib.Lanes.{chunk, zip2, mask_l, top}
 use lib.Dec.{ltb}
 use mir.Syntax.{w8}
@@ -64,12 +64,9 @@ box-bit coordinates y long down bytes k below =
 
 -- ---- boxes told by bits
 
-bit-none : (t : Bool) → ◌≡◌ {A = ℕ} (if t then 1 else 0) 0 → t ≡ false
+pub bit-none : (t : Bool) → ◌≡◌ {A = ℕ} (if t then 1 else 0) 0 → t ≡ false
 bit-none t is = grind arith
 
 -- no box is there where no bit is set
 pub none-there : (bits : ℕ) (box : Bool) (k : ℕ) → bits ≡ 0 → bits / 2 ^ k % 2 ≡ (if box then 1 else 0) → box ≡ false
 none-there bits box k none told = bit-none box (sym told ∙ rw (none, zero-div (2 ^ k)) refl)
-
-pub told-box : (bit : ℕ) (box : Bool) → bit ≡ (if box then 1 else 0) → (bit == 1) ≡ box
-told-box bit box told = grind (arith, nat_tests)

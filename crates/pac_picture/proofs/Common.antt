@@ -17,7 +17,7 @@ pub use Rattle.pac_picture.specs.Layer.{AreStale, cell_differs, differing_in, dr
 unfoldable pub use Rattle.pac_picture.specs.Layer.{all_differing, cells_of, differing_cells}
 pub use Rattle.pac_picture.specs.LayerProofs.{IsDrawn, IsLayer, LayerState, made_stale, row_dot, stale_row}
 unfoldable pub use Rattle.pac_picture.specs.LayerProofs.{kept_dot, stale_rows, zero_roms}
-pub use Rattle.pac_picture.specs.Painting.{painted_number}
+pub use Rattle.pac_picture.specs.Painting.{painted_number, painted_yet, told_number}
 unfoldable pub use Rattle.pac_picture.specs.Painting.{over_line}
 pub use Rattle.pac_picture.specs.Picture.{VideoMemory, VideoRoms, is_opaque, sprite_at}
 unfoldable pub use Rattle.pac_picture.specs.Picture.{dot, picture_line, sprite_dot, sprite_number, tile_dot, tile_number}

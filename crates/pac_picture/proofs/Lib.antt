@@ -4,6 +4,7 @@ pub mod Decoded
 pub mod Pixels
 pub mod Painted
 pub mod Boxes
+pub mod Told
 pub mod Alike
 pub mod Dots
 pub mod Strips

@@ -1,21 +1,12 @@
 -- Sprites painted one over another.
-use Rattle.pac_picture.proofs.Common.{Bool, List, [], add-one, arith, find, if◌then◌else◌, is_opaque, painted_number, refl, suc, sym}
-use Rattle.pac_picture.proofs.Common.{tabulate, unwrap_or, zero, ℕ, ◌+◌, ◌-◌, ◌<◌, ◌∙◌, ◌∷◌, ◌≡◌}
+use Rattle.pac_picture.proofs.Common.{Bool, List, [], arith, find, if◌then◌else◌, is_opaque, painted_number, refl, suc, sym}
+use Rattle.pac_picture.proofs.Common.{tabulate, unwrap_or, zero, ℕ, ◌-◌, ◌<◌, ◌∙◌, ◌∷◌, ◌≡◌}
 use Rattle.std.specs.Prelude.{Some}
 
 -- the last of eight numbers painted first, this many of them
 unfoldable pub painted : ℕ → (ℕ → ℕ) → ℕ → ℕ
 painted zero numbers below = below
 painted (suc count) numbers below = painted_number (numbers (7 - count)) (painted count numbers below)
-
-pub painted-none : (numbers : ℕ → ℕ) (below : ℕ) → below ≡ painted 0 numbers below
-unfolding painted
-painted-none numbers below = refl
-
-pub painted-more : (count : ℕ) (numbers : ℕ → ℕ) (below now next : ℕ) → now ≡ painted count numbers below →
-    next ≡ painted_number (numbers (7 - count)) now → next ≡ painted (count + 1) numbers below
-unfolding painted
-painted-more count numbers below now next so_far is = rw (add-one, is, so_far) refl
 
 -- a list of numbers painted over another, the last of them first
 over_all : List ℕ → ℕ → ℕ
@@ -38,7 +29,7 @@ unfolding painted tabulate over_all
 painted-first numbers below = sym (find-over (tabulate 8 numbers) below)
 
 -- none that shows
-unpainted : (count : ℕ) (numbers : ℕ → ℕ) (below : ℕ) → ((k under : ℕ) → k < 8 → under ≡ painted_number (numbers k) under) →
+pub unpainted : (count : ℕ) (numbers : ℕ → ℕ) (below : ℕ) → ((k under : ℕ) → k < 8 → under ≡ painted_number (numbers k) under) →
     painted count numbers below ≡ below
 unfolding painted
 unpainted zero numbers below clear = refl

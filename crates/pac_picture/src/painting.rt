@@ -8,7 +8,7 @@ ghost use Rattle.pac_tiles.specs.Tiles as tile;
 ghost use Rattle.pac_sprites.specs.Sprites as sprites;
 ghost use Rattle.pac_sprites.specs.SpritesProofs as sprites_proofs;
 ghost use Rattle.pac_picture.specs.Picture.{is_opaque, sprite_at, sprite_dot};
-ghost use Rattle.pac_picture.specs.Painting.{painted_number, over_line, AreBoxes};
+ghost use Rattle.pac_picture.specs.Painting.{painted_number, told_number, over_line, AreBoxes};
 
 use crate::graphics::Graphics;
 use crate::screen::Screen;
@@ -126,38 +126,20 @@ fn paint(graphics: &Graphics, sprite: &Sprite, y: u8, out: &mut [u8; WIDTH])
     paint_line(&numbers, sprite, out);
 }
 
-/// Paints a sprite, 0 to 7, over line y of the picture, where its box has the line.
-#[inline]
-fn paint_boxed(
-    is_boxed: bool,
-    graphics: &Graphics,
-    screen: &Screen<'_>,
-    k: u8,
-    y: u8,
-    out: &mut [u8; WIDTH],
-)
-    requires k { k < 8 }
-    requires boxed { is_boxed ≡ sprites.is_in_box (sprite_at screen.now k).top y }
+/// Paints the sprite over line y of the picture to which a place of the bits belongs that tell which boxes have the line: an even one below 16.
+#[inline(always)]
+fn paint_told(place: u32, graphics: &Graphics, screen: &Screen<'_>, y: u8, out: &mut [u8; WIDTH])
     ensures dots { (x : ℕ) → x < tile.width → slice_index out.new x
-        ≡ painted_number (sprite_dot graphics.now (sprite_at screen.now k) x y)
+        ≡ painted_number (told_number place (λ k. sprite_dot graphics.now (sprite_at screen.now k) x y))
         (slice_index out.old x) }
 {
-    if is_boxed {
-        paint(graphics, &screen.sprite(k), y, out);
+    if place % 2 == 0 && place < 16 {
+        paint(graphics, &screen.sprite((place / 2) as u8), y, out);
     }
 }
 
-/// Whether a sprite's box is among those that bits tell.
-#[inline]
-fn has_box(boxes: u64, k: u8) -> bool
-    requires { k < 8 }
-    ensures { result ≡ (boxes / 2 ^ (2 * k) % 2 == 1) }
-{
-    (boxes >> (2 * k)) % 2 == 1
-}
-
 /// Paints the eight sprites over line y of the picture, whose boxes are told by bits: the first is in front of all, so it comes last. A
-/// call, since most lines have no sprite.
+/// call, since most lines have no sprite; and from bit to bit, since most others have one or two.
 #[inline(never)]
 fn paint_sprites(graphics: &Graphics, screen: &Screen<'_>, boxes: u64, y: u8, out: &mut [u8; WIDTH])
     requires { AreBoxes boxes screen.now y }
@@ -165,9 +147,11 @@ fn paint_sprites(graphics: &Graphics, screen: &Screen<'_>, boxes: u64, y: u8, ou
         ≡ unwrap_or (find is_opaque (tabulate 8
         (λ k. sprite_dot graphics.now (sprite_at screen.now k) x y))) (slice_index out.old x) }
 {
-    for painted in 0..8u8 {
-        let k = 7 - painted;
-        paint_boxed(has_box(boxes, k), graphics, screen, k, y, out);
+    let mut left = boxes;
+    while left != 0 {
+        let place = 63 - left.leading_zeros();
+        left %= 1 << place;
+        paint_told(place, graphics, screen, y, out);
     }
 }
 
