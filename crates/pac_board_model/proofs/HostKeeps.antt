@@ -32,7 +32,7 @@ lines-placed Board ask moment met some others = choose (ends_line moment) refl
 
 -- ---- among the entries
 
-abbrev IsPlaced : (from to : ℕ) → List Entry → Type 0
+abbrev pub IsPlaced : (from to : ℕ) → List Entry → Type 0
 IsPlaced from to [] = Unit {0}
 IsPlaced from to (Line frame y ∷ older) = IsLineInTime from to frame y older × IsPlaced from to older
 IsPlaced from to (entry ∷ older) = IsPlaced from to older
@@ -60,13 +60,13 @@ placed-now from moment older before after ends sample = grind (arith, line-place
 -- ---- the frame for which each line was last composed
 
 -- the frame for which a line was last composed, 0 where it never was
-abbrev composed_frame : ℕ → List Entry → ℕ
+abbrev pub composed_frame : ℕ → List Entry → ℕ
 composed_frame y [] = 0
 composed_frame y (Line frame line ∷ older) = if line == y then frame else composed_frame y older
 composed_frame y (entry ∷ older) = composed_frame y older
 
 -- how many of the moments at which line y is composed have come
-abbrev compositions : ℕ → ℕ → ℕ
+abbrev pub compositions : ℕ → ℕ → ℕ
 compositions y time = (time / line_ticks + (223 - y)) / 264
 
 -- ---- a line that was composed is among the entries
@@ -115,7 +115,7 @@ found-composed set start frame y entries below found = search (rules, get_or-tab
 
 -- ---- each blank finds all lines composed for its frame
 
-abbrev IsExact : (from : ℕ) → List Entry → Type 0
+abbrev pub IsExact : (from : ℕ) → List Entry → Type 0
 IsExact from [] = Unit {0}
 IsExact from (Blank frame ∷ older) =
     (1 ≤ frame)
@@ -137,16 +137,16 @@ no-line time moment y next below ends = grind (arith, common_steps)
 -- ---- the run
 
 -- what a history from a time on says of its lines at a later time
-record IsTold (from time : ℕ) (entries : List Entry) : Type 0 where
+pub record IsTold (from time : ℕ) (entries : List Entry) : Type 0 where
   pub since : from ≤ time
   pub composed : (y : ℕ) → y < height → compositions y from < compositions y time → composed_frame y entries ≡ compositions y time
   pub exact : IsExact from entries
   pub placed : IsPlaced from time entries
 
-nothing-told : (time : ℕ) → IsTold time time []
+pub nothing-told : (time : ℕ) → IsTold time time []
 nothing-told time = record { since = omega arith; composed = λ y below grown. absurd (omega (arith, grown)); exact = tt; placed = tt }
 
-quiet-kept : (from time : ℕ) (entry : Entry) (entries : List Entry) → is_quiet entry ≡ true → IsTold from time entries
+pub quiet-kept : (from time : ℕ) (entry : Entry) (entries : List Entry) → is_quiet entry ≡ true → IsTold from time entries
     → IsTold from time (entry ∷ entries)
 quiet-kept from time entry entries quiet told = grind (arith, common_steps)
 
@@ -177,7 +177,7 @@ module _ (set : Parts) (items : List Item) (start : BoardView) (from : ℕ) wher
       → IsTold from moment (blank_event ask moment met).board
   blank-kept time moment met next told = grind (arith, common_steps)
 
-  moment-kept : (time moment : ℕ) (met : StepProgress (List Entry)) → moment ≡ suc time → IsTold from time met.board
+  pub moment-kept : (time moment : ℕ) (met : StepProgress (List Entry)) → moment ≡ suc time → IsTold from time met.board
       → IsTold from moment (at_moment ask moment met).board
   moment-kept time moment met next told =
       let sounded = sampled-holds ask (λ after. IsTold from time after.board) moment met (λ _. search rules) (λ _. told) in

@@ -12,4 +12,5 @@ pub mod Outputs
 pub mod HostCarried
 pub mod HostKeeps
 pub mod MemoryAlone
+mod Forgotten
 pub mod TheLaws

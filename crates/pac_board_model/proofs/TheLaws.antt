@@ -1,5 +1,6 @@
 -- The laws, by the files of src/laws that state them.
 use Rattle.pac_board_model.proofs.Agreed.{runs-agree}
+use Rattle.pac_board_model.proofs.Forgotten.{picture-is-forgotten}
 use Rattle.pac_board_model.proofs.HostKeeps.{hosts-are-line-exact, lines-placed, lines-timed, pictures-are-line-exact}
 use Rattle.pac_board_model.proofs.Outputs.{frames-sampled, outputs-of-history, resumed-outputs}
 use Rattle.pac_board_model.proofs.HostCarried.{hosts-agree, steps-agree}
@@ -15,4 +16,4 @@ pub ruleset outputs = (frames-sampled, hosts-are-line-exact, outputs-of-history,
 
 pub ruleset resumed = (plays-join, resumed-outputs, runs-are-continued, runs-begin)
 
-pub ruleset walks = (memory-decides, runs-are-joined, runs-end, runs-go-by-frames, walks-end, walks-go-on, walks-join)
+pub ruleset walks = (memory-decides, picture-is-forgotten, runs-are-joined, runs-end, runs-go-by-frames, walks-end, walks-go-on, walks-join)

@@ -15,4 +15,5 @@ pub mod TraceLaws
 pub mod Host
 pub mod Laws
 pub mod MemoryLaws
+pub mod PictureLaws
 pub mod Resumed

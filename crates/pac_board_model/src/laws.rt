@@ -17,6 +17,6 @@ pub use resumed::{
     stopped_runs_stay,
 };
 pub use walks::{
-    memory_decides, runs_are_joined, runs_end, runs_go_by_frames, steps_are_timely,
-    walks_are_timed, walks_end, walks_go_on, walks_join,
+    memory_decides, picture_is_forgotten, runs_are_joined, runs_end, runs_go_by_frames,
+    steps_are_timely, walks_are_timed, walks_end, walks_go_on, walks_join,
 };

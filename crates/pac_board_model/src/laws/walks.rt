@@ -4,6 +4,7 @@
 ghost use Rattle.pac_board_model.specs.Laws.{StepsAreTimely, RunsEnd, RunsAreJoined, WalksEnd};
 ghost use Rattle.pac_board_model.specs.Laws.{WalksJoin, WalksGoOn, WalksAreTimed, RunsGoByFrames};
 ghost use Rattle.pac_board_model.specs.MemoryLaws.{MemoryDecides};
+ghost use Rattle.pac_board_model.specs.PictureLaws.{PictureIsForgotten};
 
 /// A step that goes on takes 4 to 23 T-states.
 pub fn steps_are_timely<Board>()
@@ -49,4 +50,9 @@ pub fn runs_go_by_frames<Board>()
 /// picture, and boards whose memories begin alike have one history. So samples and lines may be made later, from the history.
 pub fn memory_decides()
     ensures { MemoryDecides }
+{}
+
+/// Once 264 lines of the scan have ended, a board is what it would be with any other picture at first: all of it was composed anew.
+pub fn picture_is_forgotten()
+    ensures { PictureIsForgotten }
 {}
